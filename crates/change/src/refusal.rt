@@ -1,0 +1,12 @@
+ghost use mathlib.Core.Path.{_≡_};
+ghost use Prim.Native.Nat.{ℕ};
+
+// What every refusal has: the number and the name under which it is known.
+pub trait Refusal {
+    ghost number: { Self → ℕ };
+
+    fn number(&self) -> u8
+        ensures { λ r. ⌜ r ≡ number (now (self .entry)) ⌝ };
+
+    fn name(&self) -> &'static str;
+}
