@@ -1,0 +1,4 @@
+pub mod Format
+pub mod Parsing
+pub mod Listings
+pub mod Entries

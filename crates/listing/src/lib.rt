@@ -1,0 +1,3 @@
+// The text of recorded change lists, read.
+pub mod line;
+pub mod read;
