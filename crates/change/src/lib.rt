@@ -8,3 +8,5 @@ pub mod list;
 pub mod place;
 pub mod refusal;
 pub mod span;
+#[cfg(test)]
+mod tests;

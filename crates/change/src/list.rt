@@ -1,5 +1,6 @@
 ghost use mathlib.Core.Path.{_≡_};
 ghost use Prim.Native.Nat.{ℕ, _≤_};
+ghost use lib.Chars.{codes};
 ghost use Rattle.std.specs.Options.{Cases as BySome};
 ghost use Rattle.change.specs.Lists.{stepOf, checked, Judged, Within};
 use crate::change::Change;
@@ -23,6 +24,8 @@ pub struct BadList {
 
 pub impl Refusal for BadList as BadListRefusal {
     ghost number = { λ _. 4 };
+
+    ghost called = { λ _. codes "BadList" };
 
     fn number(&self) -> u8 {
         4

@@ -1,0 +1,4 @@
+pub mod Along
+pub mod Covers
+pub mod Puts
+pub mod Counting
