@@ -1,11 +1,14 @@
+use std::error::AnyError;
 use std::fs;
-use std::io;
 use std::io::Read;
 
 // All bytes of the file, or of standard input where none is named.
-pub fn read(rt: &LibcRuntime, path: Option<String>) -> io::Result<Vec<u8>> {
+pub fn read(rt: &LibcRuntime, path: Option<String>) -> Result<Vec<u8>, AnyError> {
     match path {
-        Some(path) => fs::read(rt, path.as_str()),
+        Some(path) => match fs::read(rt, path.as_str()) {
+            Ok(bytes) => Ok(bytes),
+            Err(error) => Err(format!(rt.alloc(), "{path}: {error}")?.into()),
+        },
         None => {
             let mut bytes = Vec::new(rt.alloc());
             rt.stdin().read_to_end(&mut bytes)?;

@@ -37,5 +37,9 @@ fn run(rt: &LibcRuntime) -> Result<(), AnyError> {
 }
 
 fn main(rt: LibcRuntime) -> Result<(), AnyError> {
-    rt.report(run(&rt))
+    let result = run(&rt);
+    if let Err(error) = &result {
+        let _ = eprintln!(rt, "blame: {error}");
+    }
+    result
 }
