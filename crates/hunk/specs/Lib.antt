@@ -1,0 +1,5 @@
+pub mod Sound
+pub mod Hunks
+pub mod Rows
+pub mod Parts
+pub mod Faults

@@ -1,0 +1,12 @@
+pub mod Splits
+pub mod Stretches
+pub mod Suspects
+pub mod Lines
+pub mod Counting
+pub mod Shifts
+pub mod Walking
+pub mod Filling
+pub mod Writing
+pub mod Along
+pub mod Tabling
+pub mod Answering

@@ -1,0 +1,12 @@
+pub mod Pieces
+pub mod ByLine
+pub mod Cases
+pub mod Counts
+pub mod Splits
+pub mod Offsets
+pub mod Steps
+pub mod Walkers
+pub mod Tables
+pub mod Faults
+pub mod Process
+pub mod Answers

@@ -1,0 +1,8 @@
+//! Times in seconds.
+
+pub type SecondsSinceUnixEpoch = i64;
+
+#[derive(Clone, Copy, Debug)]
+pub struct Time {
+    pub seconds: SecondsSinceUnixEpoch,
+}

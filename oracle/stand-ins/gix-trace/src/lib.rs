@@ -1,0 +1,8 @@
+//! Nothing is traced.
+
+#[macro_export]
+macro_rules! coarse {
+    ($($anything:tt)*) => {
+        ()
+    };
+}
