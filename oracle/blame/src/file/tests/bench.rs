@@ -95,28 +95,17 @@ pub fn run() {
     }
 }
 
-/// The time for so many calls. `process_changes` takes its tables by value: they are made before,
-/// and the answers are dropped after.
-fn time(case: &Case, calls: usize) -> u128 {
-    // In batches, so that memory stays small.
+/// The time for so many calls. `process_changes` takes its tables by value: they are made right
+/// before each call, and its answer is dropped after, off the clock.
+pub fn time(case: &Case, calls: usize) -> u128 {
     let mut spent = 0;
-    let mut left = calls;
-    while left > 0 {
-        let batch = left.min(64);
-        left -= batch;
-        let inputs: Vec<_> = (0..batch).map(|_| (case.crate_hunks(), case.changes.clone())).collect();
-        let mut answers = Vec::with_capacity(batch);
+    for _ in 0..calls {
+        let hunks = black_box(case.crate_hunks());
+        let changes = black_box(case.changes.clone());
         let start = Instant::now();
-        for (hunks, changes) in inputs {
-            answers.push(process_changes(
-                black_box(hunks),
-                black_box(changes),
-                ObjectId(case.suspect),
-                ObjectId(case.parent),
-            ));
-        }
+        let answer = process_changes(hunks, changes, ObjectId(case.suspect), ObjectId(case.parent));
         spent += start.elapsed().as_nanos();
-        black_box(answers);
+        black_box(answer);
     }
     spent
 }

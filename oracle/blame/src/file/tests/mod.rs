@@ -2,6 +2,8 @@
 
 mod bench;
 mod case;
+#[cfg(feature = "ours")]
+mod compare;
 mod differences;
 mod lists;
 mod model;
@@ -44,11 +46,15 @@ impl crate::Driver {
                 bench::run();
                 Ok(())
             }
+            #[cfg(feature = "ours")]
+            ["compare"] => return compare::run(),
             _ => {
                 eprintln!("usage: oracle process-changes (--all | --sample | --differences)");
                 eprintln!("       oracle walk (--all | --sample)");
                 eprintln!("       oracle check");
                 eprintln!("       oracle bench");
+                #[cfg(feature = "ours")]
+                eprintln!("       oracle compare");
                 return ExitCode::from(2);
             }
         };
