@@ -70,12 +70,7 @@ owed r ss n hn lv wi a = record {
   apart = distinct (take n ss) (apart-take ss n hn a);
 }
 
-pub sound-from : (r : Span) (ss xs : List Suspect) (n : ℕ) → n ≤ length ss → take n ss ≡ xs → Owed r xs → Level r ss n × (Within ss n × (Apart ss n × Unit {0}))
+pub sound-from : (r : Span) (ss xs : List Suspect) (n : ℕ) → n ≤ length ss → take n ss ≡ xs → Owed r xs → Level r ss n × Within ss n × Apart ss n
 sound-from r ss xs n hn e o =
-    let p : Owed r (take n ss) = subst (Owed r) (sym e) o in (
-      below_all (Even r) ss n hn p.level,
-      (
-        below_all Inside ss n hn p.within,
-        (take-apart ss n hn (apart (take n ss) p.apart), tt),
-      ),
-    )
+    let p : Owed r (take n ss) = subst (Owed r) (sym e) o in
+    (below_all (Even r) ss n hn p.level, below_all Inside ss n hn p.within, take-apart ss n hn (apart (take n ss) p.apart))

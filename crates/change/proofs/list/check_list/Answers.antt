@@ -4,12 +4,12 @@ use Rattle.change.specs.Lists.{check_from, checked, Judged}
 use Rattle.change.proofs.Validity.{judged, check-stops, check-goes}
 use Rattle.change.proofs.list.check_list.Goals as goal
 
-pub returns-in-default : goal.returns-in-default
-returns-in-default c =
+pub returns-in_default : goal.returns-in_default
+returns-in_default c =
     let i = c.loop-position.position in
     let cs = c.args.changes.now in
     let e : Err (record { position = i }) ≡ checked cs =
-    sym (check-stops i c.loop-position.at _ (drop (i + 1) cs) (sym c.in-default.ensures.is))
+    sym (check-stops i c.loop-position.at _ (drop (i + 1) cs) (sym c.in_default.ensures.is))
     ∙ sym (at_drop_more (check_from i c.loop-position.at) cs i _ c.loop-position-test.true)
     ∙ c.loop-position.invariant.0 in
     record { is = e; judged = subst (Judged cs) (sym e) (judged cs) }

@@ -7,7 +7,7 @@ pub returns : goal.returns
 returns c =
     let cs = c.args.changes.now in
     let n = c.args.line in
-    let ok = c.in-ok-check-list.ensures in
+    let ok = c.in_ok-check_list.ensures in
     let f = ok.judged.0.follows in
     let e : c.place.result ≡ kept cs n = c.place.ensures ∙ walk-finds cs n f in
     record {

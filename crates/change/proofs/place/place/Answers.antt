@@ -10,8 +10,8 @@ use Rattle.change.proofs.place.place.Goals.{in-Unchanged+else-line-range, in-Add
 pub loop-change-init : goal.loop-change-init
 loop-change-init c = (refl, going c.args.changes.now c.args.line c.requires)
 
-pub overflow-add-result : goal.overflow-add-result
-overflow-add-result c =
+pub overflow_add-result : goal.overflow_add-result
+overflow_add-result c =
     let g = going-here _ c.loop-change.change-index (Unchanged c.in-Unchanged.range) _ _ _ c.loop-change-test.true c.in-Unchanged.is c.loop-change.invariant.1 in
     omega (arith, g.new_fits, g.old_fits, g.follows.0, g.follows.1)
 
@@ -27,23 +27,23 @@ returns-then-line-range-2 c =
     let w = walk_here _ c.loop-change.change-index (AddedOrReplaced c.in-AddedOrReplaced.range c.in-AddedOrReplaced.count) _ _ _ _ c.loop-change-test.true c.in-AddedOrReplaced.is c.loop-change.invariant.0 in
     rw e at w
 
-pub overflow-sub-added : goal.overflow-sub-added
-overflow-sub-added c =
+pub overflow_sub-added : goal.overflow_sub-added
+overflow_sub-added c =
     let g = going-here _ c.loop-change.change-index (AddedOrReplaced c.in-AddedOrReplaced.range c.in-AddedOrReplaced.count) _ _ _ c.loop-change-test.true c.in-AddedOrReplaced.is c.loop-change.invariant.1 in
     omega (arith, g.follows.0, g.follows.1)
 
-pub overflow-add-added : goal.overflow-add-added
-overflow-add-added c =
+pub overflow_add-added : goal.overflow_add-added
+overflow_add-added c =
     let g = going-here _ c.loop-change.change-index (AddedOrReplaced c.in-AddedOrReplaced.range c.in-AddedOrReplaced.count) _ _ _ c.loop-change-test.true c.in-AddedOrReplaced.is c.loop-change.invariant.1 in
     omega (arith, g.new_fits, g.fewer, g.follows.0, g.follows.1)
 
-pub overflow-add-deleted : goal.overflow-add-deleted
-overflow-add-deleted c =
+pub overflow_add-deleted : goal.overflow_add-deleted
+overflow_add-deleted c =
     let g = going-here _ c.loop-change.change-index (AddedOrReplaced c.in-AddedOrReplaced.range c.in-AddedOrReplaced.count) _ _ _ c.loop-change-test.true c.in-AddedOrReplaced.is c.loop-change.invariant.1 in
     omega (arith, g.old_fits)
 
-pub overflow-add-deleted-in-Deleted : goal.overflow-add-deleted-in-Deleted
-overflow-add-deleted-in-Deleted c =
+pub overflow_add-deleted-in-Deleted : goal.overflow_add-deleted-in-Deleted
+overflow_add-deleted-in-Deleted c =
     let g = going-here _ c.loop-change.change-index (Deleted c.in-Deleted.field-0 c.in-Deleted.count) _ _ _ c.loop-change-test.true c.in-Deleted.is c.loop-change.invariant.1 in
     omega (arith, g.old_fits)
 

@@ -4,4 +4,4 @@ use Rattle.compare.specs.Lines.{part_of}
 use Rattle.compare.proofs.case.read_part.Given as goal
 
 abbrev pub invariant-loop-i : goal.invariant-loop-i
-invariant-loop-i g l = more g.T-as-Item.reads (vec_items l.items) (l.size - l.-i) l.rest ≡ part_of g.T-as-Item.reads l.letter l.text
+invariant-loop-i g l = more g.T.Item.reads (vec_items l.items) (l.size - l._i) l.rest ≡ part_of g.T.Item.reads l.letter l.text

@@ -6,5 +6,5 @@ use Rattle.compare.proofs.report.run.Goals as goal
 pub loop-rest-smaller : goal.loop-rest-smaller
 loop-rest-smaller c =
     let t = c.loop-rest.rest.now in
-    let h : 0 < length t = omega (arith, eqb-false _ _ (sym c.is-empty.ensures ∙ c.loop-rest-test.true)) in
-    subst (λ l. length l < length t) (sym c.first-line.ensures.rest) (shorter t h)
+    let h : 0 < length t = omega (arith, eqb-false _ _ (sym c.is_empty.ensures ∙ c.loop-rest-test.true)) in
+    subst (λ l. length l < length t) (sym c.first_line.ensures.rest) (shorter t h)

@@ -34,17 +34,18 @@ kept-all c =
     let e : c.loop-i.i ≡ c.args.hunk.count = omega arith in
     c.loop-i.invariant.0 ∙ ap (λ m. filter (differs c.args.from) (take m c.args.hunk.suspects)) e
 
-pub invariant-of-result : goal.invariant-of-result
-invariant-of-result c =
+pub invariant_of-result : goal.invariant_of-result
+invariant_of-result c =
     let h = c.args.hunk in
     let r = h.range_in_blamed_file in
     let ss = take h.count h.suspects in
-    let done = kept-all (goal.at.invariant-of-result c).After-loop-i in
+    let done = kept-all (goal.at.invariant_of-result c).After-loop-i in
     let n : h.count ≤ length h.suspects = omega arith in
     let l : c.loop-i.count ≤ length c.loop-i.suspects = omega arith in
     let long = kept-long c.args.from ss c.loop-i.suspects c.loop-i.count l done in
     let o = kept-owed r (differs c.args.from) ss (owed r h.suspects h.count n h.level h.within h.apart) in
-    (omega arith, (omega (arith, c.requires, long), (h.lines, (h.limit, sound-from r _ _ c.loop-i.count l done o))))
+    let s = sound-from r _ _ c.loop-i.count l done o in
+    record { few = omega arith; some = omega (arith, c.requires, long); lines = h.lines; limit = h.limit; level = s.0; within = s.1; apart = s.2 }
 
 pub returns : goal.returns
 returns c =

@@ -8,14 +8,14 @@ use Rattle.hunk.proofs.Laid.{laid, take-laid, length-laid}
 use Rattle.hunk.proofs.Owing.{owed, sound-from}
 use Rattle.hunk.proofs.Passes.{swap, swap-here, swap-past, swap-owed, unnamed, named-swaps}
 use Rattle.hunk.proofs.passing.renamed.Goals as goal
-use Rattle.hunk.proofs.passing.renamed.Goals.{After-loop-i, then_is, else_is}
+use Rattle.hunk.proofs.passing.renamed.Goals.{After-loop-i, then-is, else-is}
 
 pub loop-i-preserved : goal.loop-i-preserved
 loop-i-preserved c =
     let h : c.loop-i.i < length c.args.hunk.suspects = omega arith in
     elim c.if-is.branch [
-      | then_is w ↦ swap-here c.args.from _ _ _ _ c.loop-i.i h w.if-is.ensures w.suspects-is c.loop-i.invariant
-      | else_is w ↦ swap-past c.args.from _ _ _ _ c.loop-i.i h w.if-is.ensures w.suspects-is c.loop-i.invariant
+      | then-is w ↦ swap-here c.args.from _ _ _ _ c.loop-i.i h w.if-is.ensures w.suspects-is c.loop-i.invariant
+      | else-is w ↦ swap-past c.args.from _ _ _ _ c.loop-i.i h w.if-is.ensures w.suspects-is c.loop-i.invariant
     ]
 
 module _ (c : After-loop-i) where
@@ -48,14 +48,15 @@ module _ (c : After-loop-i) where
   front : take n c.loop-i.suspects ≡ map f (take n ss)
   front = ap (take n) done ∙ take-laid (map f ss) ss n long ∙ take-map f n ss
 
-pub invariant-of-result : goal.invariant-of-result
-invariant-of-result c =
+pub invariant_of-result : goal.invariant_of-result
+invariant_of-result c =
     let h = c.args.hunk in
     let l : n c ≤ length c.loop-i.suspects = omega (arith, few c, ap length (done c), length-laid (map (f c) (ss c)) (ss c) (n c) (long c) (few c)) in
     let o = swap-owed (r c) c.args.from (new c) (take (n c) (ss c)) (omega (arith, h.lines)) c.requires.fits
     (unnamed c.args.to (take (n c) (ss c)) c.requires.new)
     (owed (r c) (ss c) (n c) (few c) h.level h.within h.apart) in
-    (h.few, (h.some, (h.lines, (h.limit, sound-from (r c) _ _ (n c) l (front c) o))))
+    let s = sound-from (r c) _ _ (n c) l (front c) o in
+    record { few = h.few; some = h.some; lines = h.lines; limit = h.limit; level = s.0; within = s.1; apart = s.2 }
 
 pub returns : goal.returns
 returns c =

@@ -3,9 +3,10 @@ use Rattle.hunk.proofs.Owing.{sound-from}
 use Rattle.hunk.proofs.Checks.{right}
 use Rattle.hunk.proofs.rows.checked.Goals as goal
 
-pub invariant-of-result : goal.invariant-of-result
-invariant-of-result c =
+pub invariant_of-result : goal.invariant_of-result
+invariant_of-result c =
     let h = c.args.row in
-    let k = right h (sym c.is-hunk.ensures ∙ c.if-not-is-hunk.false) in
+    let k = right h (sym c.is_hunk.ensures ∙ c.if-not-is_hunk.false) in
     let n : h.count ≤ length h.suspects = omega (arith, k.few) in
-    (k.few, (k.some, (k.lines, (k.limit, sound-from h.range_in_blamed_file h.suspects _ h.count n refl k.owed))))
+    let s = sound-from h.range_in_blamed_file h.suspects _ h.count n refl k.owed in
+    record { few = k.few; some = k.some; lines = k.lines; limit = k.limit; level = s.0; within = s.1; apart = s.2 }

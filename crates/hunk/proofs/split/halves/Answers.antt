@@ -16,55 +16,37 @@ loop-i-preserved c =
       simp length-set c.loop-i.invariant.3,
     )
 
-pub invariant-of-before : goal.invariant-of-before
-invariant-of-before c =
+pub invariant_of-before : goal.invariant_of-before
+invariant_of-before c =
     let h = c.args.hunk in
     let n : c.loop-i.i ≤ length h.suspects = omega arith in
     let at : (i : ℕ) → i < h.count → get_or c.loop-i.left i blank ≡ fronts c.args.k (get_or h.suspects i blank)
-    = λ i l. mapped_at (fronts c.args.k) _ _ c.loop-i.i n c.loop-i.invariant.0 i (omega arith) in (
-      h.few,
-      (
-        h.some,
-        (
-          omega arith,
-          (
-            omega arith,
-            (
-              front-level h.range_in_blamed_file _ h.suspects h.count c.args.k at,
-              (
-                front-within h.range_in_blamed_file _ h.suspects h.count c.args.k at c.requires.inside.1 h.level h.within,
-                (same-apart (fronts c.args.k) (λ s. refl) _ h.suspects h.count at h.apart, tt),
-              ),
-            ),
-          ),
-        ),
-      ),
-    )
+    = λ i l. mapped_at (fronts c.args.k) _ _ c.loop-i.i n c.loop-i.invariant.0 i (omega arith) in
+    record {
+      few = h.few;
+      some = h.some;
+      lines = omega arith;
+      limit = omega arith;
+      level = front-level h.range_in_blamed_file _ h.suspects h.count c.args.k at;
+      within = front-within h.range_in_blamed_file _ h.suspects h.count c.args.k at c.requires.inside.1 h.level h.within;
+      apart = same-apart (fronts c.args.k) (λ s. refl) _ h.suspects h.count at h.apart;
+    }
 
-pub invariant-of-after : goal.invariant-of-after
-invariant-of-after c =
+pub invariant_of-after : goal.invariant_of-after
+invariant_of-after c =
     let h = c.args.hunk in
     let n : c.loop-i.i ≤ length h.suspects = omega arith in
     let at : (i : ℕ) → i < h.count → get_or c.loop-i.right i blank ≡ backs c.args.k (get_or h.suspects i blank)
-    = λ i l. mapped_at (backs c.args.k) _ _ c.loop-i.i n c.loop-i.invariant.1 i (omega arith) in (
-      h.few,
-      (
-        h.some,
-        (
-          omega arith,
-          (
-            h.limit,
-            (
-              back_level h.range_in_blamed_file _ h.suspects h.count c.args.k at h.level,
-              (
-                back-within _ h.suspects h.count c.args.k at h.within,
-                (same-apart (backs c.args.k) (λ s. refl) _ h.suspects h.count at h.apart, tt),
-              ),
-            ),
-          ),
-        ),
-      ),
-    )
+    = λ i l. mapped_at (backs c.args.k) _ _ c.loop-i.i n c.loop-i.invariant.1 i (omega arith) in
+    record {
+      few = h.few;
+      some = h.some;
+      lines = omega arith;
+      limit = h.limit;
+      level = back_level h.range_in_blamed_file _ h.suspects h.count c.args.k at h.level;
+      within = back-within _ h.suspects h.count c.args.k at h.within;
+      apart = same-apart (backs c.args.k) (λ s. refl) _ h.suspects h.count at h.apart;
+    }
 
 pub returns : goal.returns
 returns c =

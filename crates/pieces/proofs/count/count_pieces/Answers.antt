@@ -22,17 +22,17 @@ loop-change-preserved c =
     elim c.match-change.branch [
       | in-Unchanged+else-range-lines w ↦
           let d = here cs i (Unchanged w.in-Unchanged.lines) l w.in-Unchanged.is in
-          rw w.so-far-is (sym (ap (λ k. total s e (cuts k)) d) ∙ v.0, omega (arith, v.1))
+          rw w.so_far-is (sym (ap (λ k. total s e (cuts k)) d) ∙ v.0, omega (arith, v.1))
       | in-AddedOrReplaced w ↦
           let r = w.in-AddedOrReplaced.lines in
           let d = here cs i (AddedOrReplaced r w.in-AddedOrReplaced.field-1) l w.in-AddedOrReplaced.is in
           let y = passes _ _ e r.start (r.end ∷ cuts (drop (i + 1) cs)) w.pass.ensures in
-          let z = passes _ _ e r.end (cuts (drop (i + 1) cs)) w.pass-so-far.ensures in
-          rw w.so-far-is (sym (ap (λ k. total s e (cuts k)) d ∙ y.0 ∙ z.0) ∙ v.0, omega (arith, v.1, y.1, z.1))
+          let z = passes _ _ e r.end (cuts (drop (i + 1) cs)) w.pass-so_far.ensures in
+          rw w.so_far-is (sym (ap (λ k. total s e (cuts k)) d ∙ y.0 ∙ z.0) ∙ v.0, omega (arith, v.1, y.1, z.1))
       | in-Deleted w ↦
           let d = here cs i (Deleted w.in-Deleted.line w.in-Deleted.field-1) l w.in-Deleted.is in
-          let z = passes _ _ e w.in-Deleted.line (cuts (drop (i + 1) cs)) w.pass-so-far-in-Deleted.ensures in
-          rw w.so-far-is (sym (ap (λ k. total s e (cuts k)) d ∙ z.0) ∙ v.0, omega (arith, v.1, z.1))
+          let z = passes _ _ e w.in-Deleted.line (cuts (drop (i + 1) cs)) w.pass-so_far-in-Deleted.ensures in
+          rw w.so_far-is (sym (ap (λ k. total s e (cuts k)) d ∙ z.0) ∙ v.0, omega (arith, v.1, z.1))
     ]
 
 pub returns : goal.returns

@@ -9,7 +9,7 @@ pub returns-in-Some : goal.returns-in-Some
 returns-in-Some g c p =
     let cs = c.args.changes.now in
     let k = read_as (g.R.TableRow.reads c.args.row.now) c.requires.known in
-    c.count-pieces.ensures
+    c.count_pieces.ensures
     ∙ sym (ap (λ v. length (pieces c.args.suspect p cs (hunks_of (v ∷ [])))) k.1
     ∙ count-named c.args.suspect p cs k.0 c.in-Some.range c.requires.follows (sym (c.in-Some.ensures k.0 k.1).0))
 

@@ -7,8 +7,8 @@ use Rattle.pieces.proofs.Tabling.{pieces_none, count-row-on}
 use Rattle.pieces.proofs.Rowed.{known_at}
 use Rattle.pieces.proofs.count.pieces_fit.Goals as goal
 
-pub count-row-count-requires : goal.count-row-count-requires
-count-row-count-requires g c = record {
+pub count_row-count-requires : goal.count_row-count-requires
+count_row-count-requires g c = record {
   follows = c.requires.follows;
   known = known_at g.R.TableRow.reads c.args.rows.now c.loop-i.i 0 c.index-rows-i.result c.requires.known c.loop-i-test.true c.index-rows-i.is;
 }
@@ -21,7 +21,7 @@ returns-then-count-left g c p =
     let r = c.index-rows-i.result in
     let on = at_row reads (λ os. length (pieces c.args.suspect p cs (hunks_of os))) c.args.rows.now i r (reads r) c.loop-i-test.true c.index-rows-i.is refl in
     let row = count-row-on c.args.suspect p cs (reads r) (map reads (drop (i + 1) c.args.rows.now)) in
-    sym (lt-leb _ _ (omega (arith, on, row, c.loop-i.invariant.0 p, c.count-row-count.ensures p, c.if-count-left.true)))
+    sym (lt-leb _ _ (omega (arith, on, row, c.loop-i.invariant.0 p, c.count_row-count.ensures p, c.if-count-left.true)))
 
 pub loop-i-preserved : goal.loop-i-preserved
 loop-i-preserved g c =
@@ -32,7 +32,7 @@ loop-i-preserved g c =
       λ p.
           let on = at_row reads (λ os. length (pieces c.args.suspect p cs (hunks_of os))) c.args.rows.now i r (reads r) c.loop-i-test.true c.index-rows-i.is refl in
           let row = count-row-on c.args.suspect p cs (reads r) (map reads (drop (i + 1) c.args.rows.now)) in
-          omega (arith, on, row, c.loop-i.invariant.0 p, c.count-row-count.ensures p, c.if-count-left.false),
+          omega (arith, on, row, c.loop-i.invariant.0 p, c.count_row-count.ensures p, c.if-count-left.false),
       omega (arith, c.loop-i.invariant.1),
     )
 

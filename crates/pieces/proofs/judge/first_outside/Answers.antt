@@ -4,15 +4,15 @@ use Rattle.pieces.proofs.Along.{at_row, at-end}
 use Rattle.pieces.proofs.Rowed.{known_at}
 use Rattle.pieces.proofs.judge.first_outside.Goals as goal
 
-pub is-outside-requires : goal.is-outside-requires
-is-outside-requires g c = known_at g.R.TableRow.reads c.args.rows.now c.loop-i.i 0 c.index-rows-i.result c.requires c.loop-i-test.true c.index-rows-i.is
+pub is_outside-requires : goal.is_outside-requires
+is_outside-requires g c = known_at g.R.TableRow.reads c.args.rows.now c.loop-i.i 0 c.index-rows-i.result c.requires c.loop-i-test.true c.index-rows-i.is
 
-pub returns-then-is-outside : goal.returns-then-is-outside
-returns-then-is-outside g c =
+pub returns-then-is_outside : goal.returns-then-is_outside
+returns-then-is_outside g c =
     let i = c.loop-i.i in
     let F = first_outside c.args.suspect c.args.total in
     let rest = map g.R.TableRow.reads (drop (i + 1) c.args.rows.now) in
-    ap (λ b. cond b (Some i) (F (i + 1) rest)) c.if-is-outside.ensures
+    ap (λ b. cond b (Some i) (F (i + 1) rest)) c.if-is_outside.ensures
     ∙ sym (at_row g.R.TableRow.reads (F i) c.args.rows.now i c.index-rows-i.result (g.R.TableRow.reads c.index-rows-i.result) c.loop-i-test.true c.index-rows-i.is refl)
     ∙ c.loop-i.invariant
 
@@ -21,7 +21,7 @@ loop-i-preserved g c =
     let i = c.loop-i.i in
     let F = first_outside c.args.suspect c.args.total in
     let rest = map g.R.TableRow.reads (drop (i + 1) c.args.rows.now) in
-    ap (λ b. cond b (Some i) (F (i + 1) rest)) c.if-is-outside.ensures
+    ap (λ b. cond b (Some i) (F (i + 1) rest)) c.if-is_outside.ensures
     ∙ sym (at_row g.R.TableRow.reads (F i) c.args.rows.now i c.index-rows-i.result (g.R.TableRow.reads c.index-rows-i.result) c.loop-i-test.true c.index-rows-i.is refl)
     ∙ c.loop-i.invariant
 

@@ -8,50 +8,50 @@ use Rattle.pieces.specs.Process.{first_outside, hunks_of}
 use Rattle.pieces.proofs.Answering.{judged-good, answer-outside, answer-full, answer-pieces}
 use Rattle.pieces.proofs.process.cut_hunks.Goals as goal
 
-pub returns-in-Some-first-outside : goal.returns-in-Some-first-outside
-returns-in-Some-first-outside g c =
+pub returns-in-Some-first_outside : goal.returns-in-Some-first_outside
+returns-in-Some-first_outside g c =
     let cs = c.args.changes.now in
     let os = map g.R.TableRow.reads c.args.rows.now in
     let j = sym c.in-Ok.ensures in
     let n = (judged-good cs c.in-Ok.totals j).1 in
-    let o : first_outside c.args.suspect (new_total cs) 0 os ≡ Some c.in-Some-first-outside.row =
-    ap (λ t. first_outside c.args.suspect t 0 os) (sym n) ∙ sym c.in-Some-first-outside.ensures in
-    let e = answer-outside c.args.suspect c.args.parent cs (min c.args.limit (length c.args.out.now)) os c.in-Ok.totals (sym c.in-default.ensures) (sym c.if-is.ensures) j c.in-Some-first-outside.row o in
-    subst (λ a. Answered g.R.TableRow.means g.R.TableRow.exact c.args.out.now c.args.out.now a (Err (HunkOutside c.in-Some-first-outside.row))) (sym e) (refl, refl)
+    let o : first_outside c.args.suspect (new_total cs) 0 os ≡ Some c.in-Some-first_outside.row =
+    ap (λ t. first_outside c.args.suspect t 0 os) (sym n) ∙ sym c.in-Some-first_outside.ensures in
+    let e = answer-outside c.args.suspect c.args.parent cs (min c.args.limit (length c.args.out.now)) os c.in-Ok.totals (sym c.in_default.ensures) (sym c.if-is.ensures) j c.in-Some-first_outside.row o in
+    subst (λ a. Answered g.R.TableRow.means g.R.TableRow.exact c.args.out.now c.args.out.now a (Err (HunkOutside c.in-Some-first_outside.row))) (sym e) (refl, refl)
 
-pub first-outside-requires : goal.first-outside-requires
-first-outside-requires g c = sym c.in-default.ensures
+pub first_outside-requires : goal.first_outside-requires
+first_outside-requires g c = sym c.in_default.ensures
 
-pub pieces-fit-requires : goal.pieces-fit-requires
-pieces-fit-requires g c = record {
+pub pieces_fit-requires : goal.pieces_fit-requires
+pieces_fit-requires g c = record {
   follows = (judged-good c.args.changes.now c.in-Ok.totals (sym c.in-Ok.ensures)).0.follows;
-  known = sym c.in-default.ensures;
+  known = sym c.in_default.ensures;
 }
 
-pub returns-then-not-pieces-fit : goal.returns-then-not-pieces-fit
-returns-then-not-pieces-fit g c =
+pub returns-then-not-pieces_fit : goal.returns-then-not-pieces_fit
+returns-then-not-pieces_fit g c =
     let cs = c.args.changes.now in
     let os = map g.R.TableRow.reads c.args.rows.now in
     let j = sym c.in-Ok.ensures in
     let n = (judged-good cs c.in-Ok.totals j).1 in
     let o : first_outside c.args.suspect (new_total cs) 0 os ≡ None =
-    ap (λ t. first_outside c.args.suspect t 0 os) (sym n) ∙ sym c.in-default-first-outside.ensures in
+    ap (λ t. first_outside c.args.suspect t 0 os) (sym n) ∙ sym c.in_default-first_outside.ensures in
     let l : leb (length (pieces c.args.suspect c.args.parent cs (hunks_of os))) (min c.args.limit (length c.args.out.now)) ≡ false =
-    ap (λ m. leb (length (pieces c.args.suspect c.args.parent cs (hunks_of os))) m) (sym c.min.ensures) ∙ sym (c.if-not-pieces-fit.ensures c.args.parent) in
-    let e = answer-full c.args.suspect c.args.parent cs (min c.args.limit (length c.args.out.now)) os c.in-Ok.totals (sym c.in-default.ensures) (sym c.if-is.ensures) j o l in
+    ap (λ m. leb (length (pieces c.args.suspect c.args.parent cs (hunks_of os))) m) (sym c.min.ensures) ∙ sym (c.if-not-pieces_fit.ensures c.args.parent) in
+    let e = answer-full c.args.suspect c.args.parent cs (min c.args.limit (length c.args.out.now)) os c.in-Ok.totals (sym c.in_default.ensures) (sym c.if-is.ensures) j o l in
     subst (λ a. Answered g.R.TableRow.means g.R.TableRow.exact c.args.out.now c.args.out.now a (Err HunksFull)) (sym e) (refl, refl)
 
-pub write-all-requires : goal.write-all-requires
-write-all-requires g c =
+pub write_all-requires : goal.write_all-requires
+write_all-requires g c =
     let cs = c.args.changes.now in
     let os = map g.R.TableRow.reads c.args.rows.now in
     let good = judged-good cs c.in-Ok.totals (sym c.in-Ok.ensures) in
-    let l = leb-true _ _ (sym (c.if-not-pieces-fit.ensures c.args.parent)) in
+    let l = leb-true _ _ (sym (c.if-not-pieces_fit.ensures c.args.parent)) in
     record {
       differ = sym c.if-is.ensures;
       valid = good.0;
-      known = sym c.in-default.ensures;
-      inside = ap (λ t. first_outside c.args.suspect t 0 os) (sym good.1) ∙ sym c.in-default-first-outside.ensures;
+      known = sym c.in_default.ensures;
+      inside = ap (λ t. first_outside c.args.suspect t 0 os) (sym good.1) ∙ sym c.in_default-first_outside.ensures;
       room = omega (arith, l, c.min.ensures);
     }
 
@@ -62,8 +62,8 @@ returns g c =
     let j = sym c.in-Ok.ensures in
     let n = (judged-good cs c.in-Ok.totals j).1 in
     let o : first_outside c.args.suspect (new_total cs) 0 os ≡ None =
-    ap (λ t. first_outside c.args.suspect t 0 os) (sym n) ∙ sym c.in-default-first-outside.ensures in
+    ap (λ t. first_outside c.args.suspect t 0 os) (sym n) ∙ sym c.in_default-first_outside.ensures in
     let l : leb (length (pieces c.args.suspect c.args.parent cs (hunks_of os))) (min c.args.limit (length c.args.out.now)) ≡ true =
-    ap (λ m. leb (length (pieces c.args.suspect c.args.parent cs (hunks_of os))) m) (sym c.min.ensures) ∙ sym (c.if-not-pieces-fit.ensures c.args.parent) in
-    let e = answer-pieces c.args.suspect c.args.parent cs (min c.args.limit (length c.args.out.now)) os c.in-Ok.totals (sym c.in-default.ensures) (sym c.if-is.ensures) j o l in
-    subst (λ a. Answered g.R.TableRow.means g.R.TableRow.exact c.args.out.now c.write-all.new.out a (Ok c.write-all.result)) (sym e) (c.write-all.ensures.count, c.write-all.ensures.rows)
+    ap (λ m. leb (length (pieces c.args.suspect c.args.parent cs (hunks_of os))) m) (sym c.min.ensures) ∙ sym (c.if-not-pieces_fit.ensures c.args.parent) in
+    let e = answer-pieces c.args.suspect c.args.parent cs (min c.args.limit (length c.args.out.now)) os c.in-Ok.totals (sym c.in_default.ensures) (sym c.if-is.ensures) j o l in
+    subst (λ a. Answered g.R.TableRow.means g.R.TableRow.exact c.args.out.now c.write_all.new.out a (Ok c.write_all.result)) (sym e) (c.write_all.ensures.count, c.write_all.ensures.rows)

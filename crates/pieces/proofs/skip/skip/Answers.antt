@@ -8,13 +8,13 @@ use Rattle.pieces.proofs.Skipping.{skip-unchanged, skip-added, skip-deleted, fol
 use Rattle.pieces.proofs.skip.skip.Goals as goal
 use Rattle.pieces.proofs.skip.skip.Goals.{in-Unchanged+else-unchanged-range, in-AddedOrReplaced+else-added-range, in-Deleted+else-line-range}
 
-pub pass-added-requires : goal.pass-added-requires
-pass-added-requires c =
+pub pass_added-requires : goal.pass_added-requires
+pass_added-requires c =
     let d = here c.args.changes.now c.loop-next.next (AddedOrReplaced c.in-AddedOrReplaced.added c.in-AddedOrReplaced.deleted) c.loop-next-test.true c.in-AddedOrReplaced.is in
     omega (arith, ap weights d, c.loop-next.invariant.lighter, c.requires.fits)
 
-pub sub-assign-requires : goal.sub-assign-requires
-sub-assign-requires c =
+pub sub_assign-requires : goal.sub_assign-requires
+sub_assign-requires c =
     let d = here c.args.changes.now c.loop-next.next (Deleted c.in-Deleted.line c.in-Deleted.deleted) c.loop-next-test.true c.in-Deleted.is in
     omega (arith, ap weights d, c.loop-next.invariant.lighter, c.requires.fits)
 
@@ -39,13 +39,13 @@ loop-next-preserved c =
           let d = here cs i (AddedOrReplaced a k) l w.in-AddedOrReplaced.is in
           let f = follows-at cs i (AddedOrReplaced a k) c.requires.follows d in
           rw w.offset-is
-          (skipped-on cs _ _ i _ c.loop-next.offset _ (AddedOrReplaced a k) v l d w.pass-added.ensures.size
-          (λ s p h e. skip-added s p _ h _ rest e a k (omega (arith, f.1.0, f.1.1)) w.if-added-range.false ∙ ap (λ o. walk_of s p o h rest) (sym w.pass-added.ensures.is)))
+          (skipped-on cs _ _ i _ c.loop-next.offset _ (AddedOrReplaced a k) v l d w.pass_added.ensures.size
+          (λ s p h e. skip-added s p _ h _ rest e a k (omega (arith, f.1.0, f.1.1)) w.if-added-range.false ∙ ap (λ o. walk_of s p o h rest) (sym w.pass_added.ensures.is)))
       | in-Deleted+else-line-range w ↦
           let n = w.in-Deleted.line in
           let k = w.in-Deleted.deleted in
           let d = here cs i (Deleted n k) l w.in-Deleted.is in
           rw w.offset-is
-          (skipped-on cs _ _ i _ c.loop-next.offset _ (Deleted n k) v l d w.sub-assign.ensures.size
-          (λ s p h e. skip-deleted s p _ h _ rest e n k c.requires.lines w.if-line-range.false ∙ ap (λ o. walk_of s p o h rest) (sym w.sub-assign.ensures.is)))
+          (skipped-on cs _ _ i _ c.loop-next.offset _ (Deleted n k) v l d w.sub_assign.ensures.size
+          (λ s p h e. skip-deleted s p _ h _ rest e n k c.requires.lines w.if-line-range.false ∙ ap (λ o. walk_of s p o h rest) (sym w.sub_assign.ensures.is)))
     ]

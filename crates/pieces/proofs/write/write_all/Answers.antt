@@ -21,8 +21,8 @@ loop-i-init g c = record {
   low = omega arith;
 }
 
-pub write-row-used-requires : goal.write-row-used-requires
-write-row-used-requires g c =
+pub write_row-used-requires : goal.write_row-used-requires
+write_row-used-requires g c =
     let cs = c.args.changes.now in
     let i = c.loop-i.i in
     let reads = g.R.TableRow.reads in
@@ -46,10 +46,10 @@ loop-i-preserved g c =
     let r = c.index-rows-i.result in
     let os = map reads (drop (i + 1) c.args.rows.now) in
     let on = along-here g.R.TableRow.means g.R.TableRow.exact _ _ _ c.args.changes.now reads c.args.rows.now i r _ _ c.loop-i-test.true c.index-rows-i.is c.loop-i.invariant in
-    along-row _ _ _ _ _ _ _ os i c.loop-i.out c.loop-i.used (reads r) c.write-row-used.new.out c.write-row-used.result on c.write-row-used.ensures.count c.write-row-used.ensures.rows
+    along-row _ _ _ _ _ _ _ os i c.loop-i.out c.loop-i.used (reads r) c.write_row-used.new.out c.write_row-used.result on c.write_row-used.ensures.count c.write_row-used.ensures.rows
 
-pub overflow-add-used : goal.overflow-add-used
-overflow-add-used g c =
+pub overflow_add-used : goal.overflow_add-used
+overflow_add-used g c =
     let cs = c.args.changes.now in
     let i = c.loop-i.i in
     let reads = g.R.TableRow.reads in
@@ -57,7 +57,7 @@ overflow-add-used g c =
     let os = map reads (drop (i + 1) c.args.rows.now) in
     let on = along-here g.R.TableRow.means g.R.TableRow.exact _ _ _ c.args.changes.now reads c.args.rows.now i r _ _ c.loop-i-test.true c.index-rows-i.is c.loop-i.invariant in
     let room = along-room _ _ _ _ _ _ _ os i c.loop-i.out c.loop-i.used (reads r) on in
-    let b : c.loop-i.used + c.write-row-used.result ≤ length c.loop-i.out = omega (arith, room, c.write-row-used.ensures.count) in
+    let b : c.loop-i.used + c.write_row-used.result ≤ length c.loop-i.out = omega (arith, room, c.write_row-used.ensures.count) in
     search rules
 
 pub returns : goal.returns

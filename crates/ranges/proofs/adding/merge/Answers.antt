@@ -12,10 +12,10 @@ module _ (c : After-insert) where
       let count = c.apart-others.result.count in
       let z : count - 0 ≡ count = omega arith in
       c.refill.ensures.items ∙ ap (λ k. take k c.apart-others.result.rows) z ∙ c.apart-others.ensures.is
-      ∙ ap (filter (away_from (span_of c.args.range))) c.as-slice-2.ensures
+      ∙ ap (filter (away_from (span_of c.args.range))) c.as_slice-2.ensures
 
   wide : span_of c.widen-wide.result ≡ merged (span_of c.args.range) (spans (items_of c.args.table.now))
-  wide = c.widen-wide.ensures ∙ ap (λ l. merged (span_of c.args.range) (spans l)) c.as-slice.ensures
+  wide = c.widen-wide.ensures ∙ ap (λ l. merged (span_of c.args.range) (spans l)) c.as_slice.ensures
 
   most : c.refill.new.table.limit ≡ 64
   most = c.refill.ensures.limit ∙ c.requires

@@ -5,4 +5,4 @@ use Rattle.ranges.specs.Spans.{spans}
 use Rattle.ranges.proofs.clipping.cut.Given as goal
 
 abbrev pub invariant-loop-row : goal.invariant-loop-row
-invariant-loop-row l = (l.out ≡ laid (cut_all l.max-lines (take l.row-index (spans l.rows)))) × (l.out.count ≤ l.row-index)
+invariant-loop-row l = (l.out ≡ laid (cut_all l.max_lines (take l.row-index (spans l.rows)))) × (l.out.count ≤ l.row-index)

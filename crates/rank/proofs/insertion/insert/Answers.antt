@@ -7,7 +7,7 @@ use Rattle.rank.proofs.insertion.insert.Goals as goal
 
 pub insert-requires : goal.insert-requires
 insert-requires g c =
-    omega (arith, c.place-at.ensures, c.as-slice.ensures.len, place-within g.T.Ranked.after c.args.x c.as-slice.result.now)
+    omega (arith, c.place-at.ensures, c.as_slice.ensures.len, place-within g.T.Ranked.after c.args.x c.as_slice.result.now)
 
 pub returns-in-Ok : goal.returns-in-Ok
 returns-in-Ok g c =
@@ -15,7 +15,7 @@ returns-in-Ok g c =
     let x = c.args.x in
     let after = g.T.Ranked.after in
     let is : vec_items c.insert.new.self ≡ put after x (items_of t) =
-    inserted-is-put after x (items_of t) (vec_items c.insert.new.self) c.place-at.result c.in-Ok.ensures.items (c.place-at.ensures ∙ ap (place_of after x) c.as-slice.ensures.value) in
+    inserted-is-put after x (items_of t) (vec_items c.insert.new.self) c.place-at.result c.in-Ok.ensures.items (c.place-at.ensures ∙ ap (place_of after x) c.as_slice.ensures.value) in
     record {
       answer = room-answer t.limit (items_of t) x (omega (arith, t.few, t.items.ok.0));
       items = room-holds t.limit (items_of t) _ _ (omega (arith, t.few, t.items.ok.0)) is;

@@ -8,15 +8,15 @@ use Rattle.runs.proofs.count.count_lines.Goals as goal
 use Rattle.runs.proofs.count.count_lines.Goals.{in-Unchanged, in-AddedOrReplaced, in-Deleted}
 
 pub loop-change-init : goal.loop-change-init
-loop-change-init c = record { keeps = omega arith; sets = omega arith; fits = c.in-ok-check-list.ensures.judged.0.new_fits }
+loop-change-init c = record { keeps = omega arith; sets = omega arith; fits = c.in_ok-check_list.ensures.judged.0.new_fits }
 
-pub overflow-add-count : goal.overflow-add-count
-overflow-add-count c =
+pub overflow_add-count : goal.overflow_add-count
+overflow_add-count c =
     let w = counted-here _ c.loop-change.change-index (Unchanged c.in-Unchanged.range) _ c.loop-change-test.true c.in-Unchanged.is c.loop-change.invariant in
     omega (arith, count_fits _ _ _ w, c.lines.ensures)
 
-pub overflow-add-count-in-AddedOrReplaced : goal.overflow-add-count-in-AddedOrReplaced
-overflow-add-count-in-AddedOrReplaced c =
+pub overflow_add-count-in-AddedOrReplaced : goal.overflow_add-count-in-AddedOrReplaced
+overflow_add-count-in-AddedOrReplaced c =
     let w = counted-here _ c.loop-change.change-index (AddedOrReplaced c.in-AddedOrReplaced.range c.in-AddedOrReplaced.field-1) _ c.loop-change-test.true c.in-AddedOrReplaced.is c.loop-change.invariant in
     omega (arith, count_fits _ _ _ w, c.lines-in-AddedOrReplaced.ensures)
 
@@ -37,6 +37,6 @@ loop-change-preserved c =
 pub returns : goal.returns
 returns c =
     let cs = c.args.changes.now in
-    let ok = c.in-ok-check-list.ensures in
+    let ok = c.in_ok-check_list.ensures in
     let w = subst (λ l. Counted cs l c.loop-change.count) (drop_all c.loop-change.change-index cs c.loop-change-test.false) c.loop-change.invariant in
     subst (λ k. Ok c.loop-change.count ≡ of_valid k (count_of cs)) ok.is (ap Ok (counted-all cs _ ok.judged.0.follows w))

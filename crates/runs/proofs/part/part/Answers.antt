@@ -15,23 +15,23 @@ returns-in-None c =
     let e : None ≡ part_of s r = no_part s r c.in-Kept.place (ap place_of c.in-Kept.is) n in
     record { is = e; lines = λ f. subst (Shared s r) (sym e) (part-shared s r f) }
 
-pub returns-in-err-lines : goal.returns-in-err-lines
-returns-in-err-lines c =
+pub returns-in_err-lines : goal.returns-in_err-lines
+returns-in_err-lines c =
     let r = row_of c.args.row in
     let s = c.args.range in
-    let e : option_map row_of c.from-residual.result ≡ part_of s r = search rules in
+    let e : option_map row_of c.from_residual.result ≡ part_of s r = search rules in
     record { is = e; lines = λ f. subst (Shared s r) (sym e) (part-shared s r f) }
 
 pub returns-in-Set : goal.returns-in-Set
 returns-in-Set c =
     let r = row_of c.args.row in
     let s = c.args.range in
-    let e : Some (row_of (record { lines = c.in-ok-lines.lines; origin = Set })) ≡ part_of s r = search rules in
+    let e : Some (row_of (record { lines = c.in_ok-lines.lines; origin = Set })) ≡ part_of s r = search rules in
     record { is = e; lines = λ f. subst (Shared s r) (sym e) (part-shared s r f) }
 
 pub returns-in-Some : goal.returns-in-Some
 returns-in-Some c =
     let r = row_of c.args.row in
     let s = c.args.range in
-    let e : Some (row_of (record { lines = c.in-ok-lines.lines; origin = Kept c.in-Some.there })) ≡ part_of s r = search rules in
+    let e : Some (row_of (record { lines = c.in_ok-lines.lines; origin = Kept c.in-Some.there })) ≡ part_of s r = search rules in
     record { is = e; lines = λ f. subst (Shared s r) (sym e) (part-shared s r f) }

@@ -8,20 +8,20 @@ use Rattle.runs.proofs.Along.{along, along-is, walk-starts, walk_here, walk-on, 
 use Rattle.runs.proofs.Covers.{covers}
 use Rattle.runs.proofs.Puts.{runs_of, put_any}
 use Rattle.runs.proofs.rows.rows.Goals as goal
-use Rattle.runs.proofs.rows.rows.Goals.{in-Some+in-ok-append, in-default}
+use Rattle.runs.proofs.rows.rows.Goals.{in-Some+in_ok-append, in_default}
 
 pub loop-change-init : goal.loop-change-init
-loop-change-init c = walk-starts _ _ (ap runs_of c.new-rows.ensures.items) c.in-ok-check-list.ensures.judged.0
+loop-change-init c = walk-starts _ _ (ap runs_of c.new-rows.ensures.items) c.in_ok-check_list.ensures.judged.0
 
 pub append-requires : goal.append-requires
 append-requires c =
     let w = walk_here _ c.loop-change.change-index _ _ _ c.loop-change-test.true refl c.loop-change.invariant in
     stretch-meets _ _ _ _ _ w.goes c.in-Some.ensures
 
-pub overflow-add-old : goal.overflow-add-old
-overflow-add-old c =
+pub overflow_add-old : goal.overflow_add-old
+overflow_add-old c =
     let w = walk_here _ c.loop-change.change-index _ _ _ c.loop-change-test.true refl c.loop-change.invariant in
-    omega (arith, w.goes.fits, c.old-lines-old.ensures)
+    omega (arith, w.goes.fits, c.old_lines-old.ensures)
 
 pub loop-change-preserved : goal.loop-change-preserved
 loop-change-preserved c =
@@ -30,13 +30,13 @@ loop-change-preserved c =
     let old = c.loop-change.old in
     let rs = runs_of (vec_items c.loop-change.rows) in
     let w = walk_here cs i (get_or cs i blank) rs old c.loop-change-test.true refl c.loop-change.invariant in
-    rw c.old-lines-old.ensures (
+    rw c.old_lines-old.ensures (
     elim c.match-stretch.branch [
-      | in-Some+in-ok-append v ↦
+      | in-Some+in_ok-append v ↦
           walk-on cs _ _ rs _ old
-          (ap (λ x. runs_of (vec_items x)) v.rows-is ∙ v.in-ok-append.ensures ∙ ap (λ o. put_any o rs) v.in-Some.ensures) w
-      | in-default v ↦
-          walk-on cs _ _ rs _ old (ap (λ x. runs_of (vec_items x)) v.rows-is ∙ ap (λ o. put_any o rs) v.in-default.ensures) w
+          (ap (λ x. runs_of (vec_items x)) v.rows-is ∙ v.in_ok-append.ensures ∙ ap (λ o. put_any o rs) v.in-Some.ensures) w
+      | in_default v ↦
+          walk-on cs _ _ rs _ old (ap (λ x. runs_of (vec_items x)) v.rows-is ∙ ap (λ o. put_any o rs) v.in_default.ensures) w
     ]
     )
 
@@ -44,7 +44,7 @@ pub returns : goal.returns
 returns c =
     let cs = c.args.changes.now in
     let rows = map row_of (vec_items c.loop-change.rows) in
-    let ok = c.in-ok-check-list.ensures in
+    let ok = c.in_ok-check_list.ensures in
     let back : reverse rows ≡ along 0 cs [] =
     sym (at_drop_all (λ l. along c.loop-change.old l (reverse rows)) cs c.loop-change.change-index c.loop-change-test.false) ∙ c.loop-change.invariant.same in
     let e : rows ≡ rows_of cs = sym (reverse-reverse rows) ∙ ap reverse (back ∙ along-is cs ok.judged.0.follows) in

@@ -3,13 +3,13 @@ use Rattle.std.proofs.lemmas.List.{append-nil, take_rest, length-take-le, at_dro
 use Rattle.text.specs.Decimal.{front, back, value}
 use Rattle.text.proofs.Digits.{step, ends, too_large, no_digit, reads, value-append, value_grows}
 use Rattle.text.proofs.decimal.number.Goals as goal
-use Rattle.text.proofs.decimal.number.Goals.{then-loop-at-test+else-is-ascii-digit, else-loop-at-test}
+use Rattle.text.proofs.decimal.number.Goals.{then-loop-at-test+else-is_ascii_digit, else-loop-at-test}
 
 pub returns-then-value-from : goal.returns-then-value-from
 returns-then-value-from c =
     let s = c.args.text.now in
     let i = c.loop-at.at in
-    let t = step s i c.loop-at-test.true (sym c.is-ascii-digit.ensures.value ∙ c.if-is-ascii-digit.true) in
+    let t = step s i c.loop-at-test.true (sym c.is_ascii_digit.ensures.value ∙ c.if-is_ascii_digit.true) in
     let f = sym c.loop-at.invariant.3 ∙ t.digits in
     let v = ap (value 0) f ∙ value-append 0 (take (i + 1) s) (front (drop (i + 1) s)) in
     sym (too_large c.args.most s
@@ -19,7 +19,7 @@ pub loop-at-preserved : goal.loop-at-preserved
 loop-at-preserved c =
     let s = c.args.text.now in
     let i = c.loop-at.at in
-    let t = step s i c.loop-at-test.true (sym c.is-ascii-digit.ensures.value ∙ c.if-is-ascii-digit.true) in (
+    let t = step s i c.loop-at-test.true (sym c.is_ascii_digit.ensures.value ∙ c.if-is_ascii_digit.true) in (
       omega (arith, c.loop-at-test.true),
       omega (arith, t.number, c.loop-at.invariant.1, c.from.ensures),
       omega (arith, c.if-value-from.false, c.from-in-loop-at.ensures),
@@ -33,7 +33,7 @@ returns-then-at-eq0 c =
     let i = c.loop-at.at in
     let p : (front (drop i s) ≡ []) × (back (drop i s) ≡ drop i s) =
     elim c.loop-at-test.branch [
-      | then-loop-at-test+else-is-ascii-digit w ↦ ends s i (inr (w.loop-at-test.true, sym w.is-ascii-digit.ensures.value ∙ w.if-is-ascii-digit.false))
+      | then-loop-at-test+else-is_ascii_digit w ↦ ends s i (inr (w.loop-at-test.true, sym w.is_ascii_digit.ensures.value ∙ w.if-is_ascii_digit.false))
       | else-loop-at-test w ↦ ends s i (inl w.loop-at-test.false)
     ] in
     let f : front s ≡ take i s = sym c.loop-at.invariant.3 ∙ ap (λ l. take i s ++ l) p.0 ∙ append-nil (take i s) in
@@ -45,7 +45,7 @@ returns c =
     let i = c.loop-at.at in
     let p : (front (drop i s) ≡ []) × (back (drop i s) ≡ drop i s) =
     elim c.loop-at-test.branch [
-      | then-loop-at-test+else-is-ascii-digit w ↦ ends s i (inr (w.loop-at-test.true, sym w.is-ascii-digit.ensures.value ∙ w.if-is-ascii-digit.false))
+      | then-loop-at-test+else-is_ascii_digit w ↦ ends s i (inr (w.loop-at-test.true, sym w.is_ascii_digit.ensures.value ∙ w.if-is_ascii_digit.false))
       | else-loop-at-test w ↦ ends s i (inl w.loop-at-test.false)
     ] in
     let f : front s ≡ take i s = sym c.loop-at.invariant.3 ∙ ap (λ l. take i s ++ l) p.0 ∙ append-nil (take i s) in

@@ -3,4 +3,4 @@ use Rattle.hunk.proofs.Passes.{some_left}
 use Rattle.hunk.proofs.hunk.UnblamedHunk.passed_blame.Goals as goal
 
 pub dropped-requires : goal.dropped-requires
-dropped-requires c = some_left c.args.from c.args.to _ (sym c.if-is.ensures) (sym c.if-has-suspect.ensures)
+dropped-requires c = some_left c.args.from c.args.to _ (sym c.if-is.ensures) (sym c.if-has_suspect.ensures)

@@ -9,7 +9,7 @@ use Rattle.hunk.proofs.Laid.{laid, laid-set}
 use Rattle.hunk.proofs.Checks.{right}
 use Rattle.hunk.proofs.Rowwise.{renamed-hunk}
 use Rattle.hunk.proofs.row.HunkRow.renamed.Goals as goal
-use Rattle.hunk.proofs.row.HunkRow.renamed.Goals.{then_is, else_is}
+use Rattle.hunk.proofs.row.HunkRow.renamed.Goals.{then-is, else-is}
 
 pub loop-i-preserved : goal.loop-i-preserved
 loop-i-preserved c =
@@ -20,8 +20,8 @@ loop-i-preserved c =
     let n : i < length (map f ss) = simp length-map l in
     let e : c.if-is.suspects ≡ f (get_or ss i blank) =
     elim c.if-is.branch [
-      | then_is w ↦ let t : same_source (get_or ss i blank).source c.args.from ≡ true = sym c.is.ensures ∙ w.if-is.true in w.suspects-is ∙ sym (rw t)
-      | else_is w ↦ let t : same_source (get_or ss i blank).source c.args.from ≡ false = sym c.is.ensures ∙ w.if-is.false in w.suspects-is ∙ sym (rw t)
+      | then-is w ↦ let t : same_source (get_or ss i blank).source c.args.from ≡ true = sym c.is.ensures ∙ w.if-is.true in w.suspects-is ∙ sym (rw t)
+      | else-is w ↦ let t : same_source (get_or ss i blank).source c.args.from ≡ false = sym c.is.ensures ∙ w.if-is.false in w.suspects-is ∙ sym (rw t)
     ] in
     ap (λ v. set c.loop-i.suspects i v) (e ∙ sym (get_or-map f ss i blank blank l))
     ∙ ap (λ v. set v i (get_or (map f ss) i blank)) c.loop-i.invariant

@@ -13,4 +13,4 @@ returns c h e =
     let l = (right r b.0).lines in
     let some : 0 < (row_piece r).size = omega arith in
     let size = ap (λ (v : Piece). v.size) b.1 in
-    (c.range-of.ensures ∙ range-of-hunk r c.args.source b.0 ∙ ap (range_in c.args.source) b.1, omega arith)
+    (c.range_of.ensures ∙ range-of-hunk r c.args.source b.0 ∙ ap (range_in c.args.source) b.1, omega arith)

@@ -12,8 +12,8 @@ added c =
     told (ranges_of b) c.args.first c.args.last c.merge.result (spans (items_of c.merge.new.table)) _
     (rows-parted (items_of b.ranges) b.apart) c.in-Ok.ensures c.merge.ensures.answer c.merge.ensures.rows
 
-pub invariant-of-self : goal.invariant-of-self
-invariant-of-self c = (c.merge.ensures.limit, (apart_of _ (added c).order, tt))
+pub invariant_of-self : goal.invariant_of-self
+invariant_of-self c = record { limit = c.merge.ensures.limit; apart = apart_of _ (added c).order }
 
 pub returns-in-Ok : goal.returns-in-Ok
 returns-in-Ok c = let t = added (goal.at.returns-in-Ok c).After-merge in record { answer = t.answer; ranges = t.ranges; lines = t.lines }

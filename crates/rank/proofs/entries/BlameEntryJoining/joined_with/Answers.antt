@@ -2,6 +2,6 @@ use Rattle.std.proofs.Common.{◌+◌, sym, arith}
 use Rattle.rank.specs.Credits.{made-lengthened}
 use Rattle.rank.proofs.entries.BlameEntryJoining.joined_with.Goals as goal
 
-pub returns-then-joins-with : goal.returns-then-joins-with
-returns-then-joins-with c =
-    made-lengthened c.args.self.now c.args.other.now (c.len.result + c.len-then-joins-with.result) c.new.result (sym c.if-joins-with.ensures) (omega arith) c.new.ensures
+pub returns-then-joins_with : goal.returns-then-joins_with
+returns-then-joins_with c =
+    made-lengthened c.args.self.now c.args.other.now (c.len.result + c.len-then-joins_with.result) c.new.result (sym c.if-joins_with.ensures) (omega arith) c.new.ensures

@@ -2,6 +2,6 @@ use Rattle.std.proofs.Common.{sym}
 use Rattle.rank.specs.Spans.{made-spanning}
 use Rattle.rank.proofs.ranges.LineRangeJoining.joined_with.Goals as goal
 
-pub returns-then-joins-with : goal.returns-then-joins-with
-returns-then-joins-with c =
-    made-spanning c.args.self.now c.args.other.now c.start.result c.end.result c.new.result (sym c.if-joins-with.ensures) c.start.ensures c.end.ensures c.new.ensures
+pub returns-then-joins_with : goal.returns-then-joins_with
+returns-then-joins_with c =
+    made-spanning c.args.self.now c.args.other.now c.start.result c.end.result c.new.result (sym c.if-joins_with.ensures) c.start.ensures c.end.ensures c.new.ensures
