@@ -1,4 +1,7 @@
 // Which lines of a plan each commit set, and which it kept.
+
+#![tactic(auto)]
+
 use anyhow::anyhow;
 use std::env;
 

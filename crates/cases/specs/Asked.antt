@@ -1,5 +1,5 @@
 -- Worked cases of asked ranges: lines counted from one, the last included, as ranges. Assumes nothing.
-use Rattle.std.specs.Prelude.{◌≡◌, ℕ, List, [], ◌∷◌, Ok}
+use Rattle.std.specs.Prelude.{◌≡◌, ℕ, [], ◌∷◌, Ok}
 use Rattle.ranges.specs.declared.one_based.OneBased.{OneBased}
 use Rattle.ranges.specs.Adds.{add_all_of}
 use Rattle.cases.specs.Cuts.{upto}

@@ -1,5 +1,5 @@
 -- Worked cases of credited lines that join. Assumes nothing.
-use Rattle.std.specs.Prelude.{◌≡◌, ℕ, ◌<◌, List, [], ◌∷◌}
+use Rattle.std.specs.Prelude.{◌≡◌, ℕ, ◌<◌, [], ◌∷◌}
 use Rattle.std.proofs.Common.{lit<}
 use Rattle.rank.specs.declared.entry.BlameEntry.{BlameEntry}
 use Rattle.rank.specs.Entries.{continues, lengthened}

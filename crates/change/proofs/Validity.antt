@@ -1,12 +1,12 @@
 -- The check of a list, change by change, tells whether the list is valid, and where it first is not.
-use Rattle.std.proofs.Common.{◌≡◌, ℕ, ◌+◌, ◌-◌, ◌<◌, ◌≤◌, Bool, true, false, cond, ◌&&◌, eqb, ltb, leb, ◌⊎◌, List, [], ◌∷◌, ◌++◌, length, take, Some, None, Ok, Err, sym, refl, ap, ◌∙◌, subst, inl, inr, arith}
+use Rattle.std.proofs.Common.{◌≡◌, ℕ, ◌+◌, ◌≤◌, true, List, [], ◌∷◌, ◌++◌, length, take, Some, None, Err, refl, subst, inl, inr, arith}
 use Rattle.std.proofs.lemmas.Bool.{cases_Bool, both_ways}
 use Rattle.std.proofs.lemmas.Bool.Decides.{nat_tests}
 use Rattle.std.proofs.lemmas.List.{append-nil, append_assoc, length_push, length-append, take_at}
 use Rattle.change.specs.declared.change.Change.{Change}
 use Rattle.change.specs.declared.change.Change.TheVariants.{Unchanged, AddedOrReplaced, Deleted}
 use Rattle.change.specs.declared.list.Totals.{Totals}
-use Rattle.change.specs.Lists.{limit, new_lines, old_lines, new_total, old_total, Follows, Valid, stands, grown, step_of, check_from, origin, checked, Judged}
+use Rattle.change.specs.Lists.{limit, new_lines, old_lines, new_total, old_total, Follows, Valid, stands, grown, step_of, check_from, checked, Judged}
 
 abbrev pub totals : List Change → Totals
 totals cs = record { new = new_total cs; old = old_total cs }

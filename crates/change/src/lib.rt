@@ -2,6 +2,9 @@
 // against one parent. The check of a list says how many lines it has on either
 // side, or where it first breaks a rule; a valid list says where in the parent
 // each line of the file stands, if the commit kept it.
+
+#![tactic(auto)]
+
 pub mod change;
 pub mod line_range;
 pub mod list;

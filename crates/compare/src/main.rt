@@ -1,4 +1,7 @@
 // Runs `process_changes` on recorded cases, and says which answers are not the recorded ones.
+
+#![tactic(auto)]
+
 use anyhow::anyhow;
 use std::env;
 

@@ -1,5 +1,5 @@
 -- What a line is.
-use Rattle.std.proofs.Common.{◌≡◌, ℕ, Bool, true, false, cond, List, [], ◌∷◌, drop, codes, sym, refl, ap, ◌∙◌, arith}
+use Rattle.std.proofs.Common.{◌≡◌, ℕ, true, List, [], ◌∷◌, drop, codes}
 use Rattle.std.proofs.lemmas.Bool.{false≢true}
 use Rattle.listing.specs.Parsing.{begins}
 use Rattle.listing.specs.Listings.{heading, kind_of}

@@ -1,9 +1,9 @@
 -- One line on, in the text of recorded lists.
-use Rattle.std.proofs.Common.{◌≡◌, ℕ, ◌+◌, ◌<◌, ◌≤◌, Bool, true, false, List, [], ◌∷◌, ◌++◌, map, length, sym, refl, ap, ◌∙◌, arith}
+use Rattle.std.proofs.Common.{◌≡◌, ℕ, ◌+◌, ◌<◌, ◌≤◌, true, false, List, [], ◌∷◌, ◌++◌, map, length, sym, refl, ap, ◌∙◌, arith}
 use Rattle.std.proofs.lemmas.List.{append_assoc, append-nil, nil_from_length}
 use Rattle.change.specs.declared.change.Change.{Change}
 use Rattle.listing.specs.Entries.{Passed, entry_at}
-use Rattle.text.specs.Cuts.{line_of, rest_of, lines_of}
+use Rattle.text.specs.Cuts.{line_of, rest_of}
 use Rattle.text.proofs.Cutting.{lines_cut, rest-shorter}
 use Rattle.listing.specs.Listings.{Kind, Entry, heading, blank, recorded, other, kind_of, kinds, changes_in, strays_in, lists_of, outside_of}
 

@@ -1,5 +1,5 @@
 -- The lists that were read, as entries. Assumes nothing.
-use Rattle.std.specs.Prelude.{◌≡◌, ℕ, ◌+◌, ◌≤◌, Bool, true, false, List, [], ◌∷◌, length, vec_items}
+use Rattle.std.specs.Prelude.{◌≡◌, ℕ, ◌+◌, ◌≤◌, true, false, List, length, vec_items}
 use Rattle.listing.specs.declared.read.Recorded.{Recorded}
 use Rattle.listing.specs.Listings.{Kind, Entry, kinds, changes_in, strays_in, lists_of, outside_of}
 

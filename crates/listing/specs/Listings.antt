@@ -1,6 +1,6 @@
 -- The text of recorded lists. A heading line, `commit NAME`, begins a list; the lines behind it are its own,
 -- up to a blank line, the next heading or the end of the text. Assumes nothing.
-use Rattle.std.specs.Prelude.{◌≡◌, ℕ, ◌+◌, Bool, true, false, List, [], ◌∷◌, map, Some, None, vec_items, codes, Option}
+use Rattle.std.specs.Prelude.{ℕ, ◌+◌, Bool, true, false, List, [], ◌∷◌, map, Some, None, codes, Option}
 use Rattle.change.specs.declared.change.Change.{Change}
 use Rattle.text.specs.Cuts.{lines_of}
 use Rattle.listing.specs.declared.line.Line.{Line}

@@ -1,3 +1,6 @@
 // The text of recorded change lists, read.
+
+#![tactic(auto)]
+
 pub mod line;
 pub mod read;

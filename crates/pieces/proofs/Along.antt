@@ -1,12 +1,11 @@
 -- Searches along the rows of a table, one row on.
-use Rattle.std.proofs.Common.{◌≡◌, ℕ, ◌+◌, ◌<◌, ◌≤◌, Bool, true, false, cond, ltb, leb, List, [], ◌∷◌, ◌++◌, map, length, get_or, take, drop, Some, None, Option, sym, refl, ap, ◌∙◌, subst, arith}
+use Rattle.std.proofs.Common.{◌≡◌, ℕ, ◌+◌, ◌<◌, ◌≤◌, false, ltb, List, [], ◌∷◌, map, length, get_or, drop, Some, None, Option, sym, refl, ap, ◌∙◌, arith}
 use Rattle.std.proofs.lemmas.List.{at_drop_more, at_drop_all}
-use Rattle.std.proofs.lemmas.Bool.{lt-ltb, le-ltb}
 use Rattle.std.specs.Option.{option_map}
 use Rattle.change.specs.declared.span.Span.{Span}
 use Rattle.hunk.specs.declared.source.Source.{Source}
 use Rattle.hunk.specs.Hunks.{Piece, start_in, range_in, span_of, on_some}
-use Rattle.pieces.specs.Process.{first_none, hunks_of, outside, first_outside}
+use Rattle.pieces.specs.Process.{outside}
 
 -- a function of the rows that are left, one row on; r is the row, which reads as v
 pub at_row : {R Y : Type 0} (reads : R → Option Piece) (F : List (Option Piece) → Y) (rows : List R) (i : ℕ) (r : R) (v : Option Piece)

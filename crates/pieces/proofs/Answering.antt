@@ -1,8 +1,8 @@
 -- What is answered once the refusals before it do not apply; and rows that are written.
-use Rattle.std.proofs.Common.{◌≡◌, ℕ, ◌+◌, ◌-◌, ◌<◌, ◌≤◌, Bool, true, false, cond, leb, List, [], ◌∷◌, ◌++◌, map, length, take, drop, replicate, Some, None, Ok, Err, Option, Result, sym, refl, ap, ◌∙◌, subst, inl, inr, arith}
+use Rattle.std.proofs.Common.{◌≡◌, ℕ, ◌+◌, ◌-◌, true, false, leb, List, [], ◌∷◌, ◌++◌, map, length, take, drop, replicate, Some, None, Ok, Err, Option, Result, sym, refl, ap, ◌∙◌, subst, inl, inr, arith}
 use Rattle.std.specs.List.{AllByRecursion as All}
 use Rattle.std.proofs.lemmas.Bool.{cases_Bool}
-use Rattle.std.proofs.lemmas.List.{take_at, length-map, take-append-drop, map-id}
+use Rattle.std.proofs.lemmas.List.{take_at, length-map, take-append-drop}
 use Rattle.change.specs.declared.change.Change.{Change}
 use Rattle.change.specs.declared.list.Totals.{Totals}
 use Rattle.change.specs.declared.list.BadList.{BadList}

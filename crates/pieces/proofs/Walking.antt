@@ -1,9 +1,8 @@
 -- The walk of a hunk along a valid list gives the pieces of the hunk split along the cuts, each moved where its lines are kept.
-use Rattle.std.proofs.Common.{◌≡◌, ℕ, ◌+◌, ◌-◌, ◌^◌, ◌<◌, ◌≤◌, Bool, true, false, cond, ◌&&◌, ltb, leb, ◌⊎◌, List, [], ◌∷◌, ◌++◌, map, Some, None, Option, sym, refl, ap, ◌∙◌, subst, inl, inr, arith}
-use Rattle.std.specs.List.{AllByRecursion as All}
+use Rattle.std.proofs.Common.{◌≡◌, ℕ, ◌+◌, ◌-◌, ◌<◌, ◌≤◌, true, false, ltb, ◌⊎◌, List, [], ◌∷◌, ◌++◌, map, Some, None, sym, ap, ◌∙◌, inl, inr, arith}
 use Rattle.std.proofs.lemmas.List.{append_assoc, append-nil}
 use Rattle.std.proofs.ByRecursion.{All-weaker}
-use Rattle.std.proofs.lemmas.Bool.{cases_Bool, cases_lt, ltb-true, ltb-false, lt-ltb, le-ltb, le-leb, lt-leb, and_from, and_left, and_right}
+use Rattle.std.proofs.lemmas.Bool.{cases_lt, lt-ltb, le-ltb}
 use Rattle.change.specs.declared.span.Span.{Span}
 use Rattle.change.specs.declared.change.Change.{Change}
 use Rattle.change.specs.declared.change.Change.TheVariants.{Unchanged, AddedOrReplaced, Deleted}
@@ -11,16 +10,16 @@ use Rattle.change.specs.Lists.{limit, lines, new_total, old_total, Follows, Vali
 use Rattle.change.specs.Places.{kept, walk}
 use Rattle.change.proofs.Walks.{walk-finds}
 use Rattle.hunk.specs.declared.source.Source.{Source}
-use Rattle.hunk.specs.Hunks.{Piece, same_source, start_in, range_in, span_of, passed, front, back, cut, cut_at, on_some}
+use Rattle.hunk.specs.Hunks.{Piece, same_source, start_in, range_in, span_of, front, back, cut}
 use Rattle.std.specs.Option.{option_map}
 use Rattle.pieces.specs.declared.offset.Offset.{Offset}
 use Rattle.pieces.specs.declared.offset.Offset.TheVariants.{Added}
 use Rattle.pieces.specs.Offsets.{plus, minus, Stands}
 use Rattle.pieces.specs.Pieces.{cuts, moved, pieces}
-use Rattle.pieces.specs.Splits.{split, split_at, Rises}
-use Rattle.pieces.specs.Steps.{Told, told, moves, at_unchanged, at_added, at_deleted, starting, ending, go_on, walk_of, passing, holds, ends_in}
+use Rattle.pieces.specs.Splits.{split}
+use Rattle.pieces.specs.Steps.{Told, told, moves, at_unchanged, at_added, at_deleted, starting, ending, walk_of, passing}
 use Rattle.pieces.proofs.Shifts.{stands-plus, stands-minus, moves-to}
-use Rattle.pieces.proofs.Splits.{pieces-split, Uncut, split-whole, cuts-rise, rises-all, back_start}
+use Rattle.pieces.proofs.Splits.{pieces-split, split-whole, cuts-rise, rises-all, back_start}
 use Rattle.pieces.proofs.Stepping.{after, range, u-done, u-in, u-before, d-before, d-past, a-before, a-past, a-inside, a-within, a-ends, a-runs, d-in, cut_in, cut_out, split-in, split-out}
 
 -- on the way along the list `whole`, whose changes cs are left: the end `at` is reached with a lines added and d deleted,

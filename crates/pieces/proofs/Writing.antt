@@ -1,5 +1,5 @@
 -- The walk of one hunk, with its pieces written to a table as it goes.
-use Rattle.std.proofs.Common.{◌≡◌, ℕ, ◌+◌, ◌-◌, ◌*◌, ◌^◌, ◌<◌, ◌≤◌, Bool, true, false, cond, List, [], ◌∷◌, ◌++◌, length, get_or, drop, Some, None, Option, sym, refl, ap, ◌∙◌, subst, arith}
+use Rattle.std.proofs.Common.{◌≡◌, ℕ, ◌+◌, ◌*◌, ◌^◌, ◌<◌, ◌≤◌, Bool, true, false, cond, List, [], ◌∷◌, ◌++◌, length, get_or, drop, Some, None, Option, sym, refl, ap, ◌∙◌, subst, arith}
 use Rattle.std.proofs.lemmas.List.{append_assoc, append-nil, length-append, drop_all, drop-drop}
 use Rattle.std.specs.Option.{option_map}
 use Rattle.change.specs.declared.change.Change.{Change}
@@ -13,7 +13,7 @@ use Rattle.pieces.specs.declared.offset.Offset.TheVariants.{Added}
 use Rattle.pieces.specs.Offsets.{size_of}
 use Rattle.pieces.specs.Pieces.{pieces}
 use Rattle.pieces.specs.Process.{Inside}
-use Rattle.pieces.specs.Steps.{Told, step_of, at_unchanged, at_added, at_deleted, moves, go_on, walk_of}
+use Rattle.pieces.specs.Steps.{Told, step_of, at_unchanged, at_added, at_deleted, go_on, walk_of}
 use Rattle.pieces.specs.Skips.{Caught}
 use Rattle.pieces.specs.Tables.{Filled}
 use Rattle.pieces.specs.Walkers.{weight, weights, head_of}

@@ -1,5 +1,5 @@
 -- Tables that pieces are written to, row after row from the first; the rows behind them stay. Assumes nothing.
-use Rattle.std.specs.Prelude.{◌≡◌, ℕ, ◌+◌, ◌≤◌, true, false, List, map, length, take, drop}
+use Rattle.std.specs.Prelude.{◌≡◌, ◌+◌, ◌≤◌, true, false, List, map, length, take, drop}
 use Rattle.std.specs.List.{AllByRecursion as All}
 use Rattle.change.specs.declared.span.Span.{Span}
 use Rattle.change.specs.Lists.{limit}

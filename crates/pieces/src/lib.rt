@@ -1,5 +1,8 @@
 // What one change list does to hunks: each hunk that names the commit is cut
 // into pieces, which stay with it or go to its parent.
+
+#![tactic(auto)]
+
 pub mod count;
 pub mod fault;
 pub mod judge;

@@ -5,7 +5,7 @@ use Rattle.std.proofs.lemmas.Bool.{cases_Bool}
 use Rattle.std.proofs.lemmas.Bool.Decides.{nat_tests}
 use Rattle.change.specs.declared.span.Span.{Span}
 use Rattle.rank.specs.Ranks.{put}
-use Rattle.ranges.specs.Spans.{has, any_has, whole, asked, touches, is_apart, hull, merged, others, later, merged_in}
+use Rattle.ranges.specs.Spans.{has, any_has, whole, touches, is_apart, hull, merged, others, later, merged_in}
 use Rattle.ranges.proofs.Merges.{Some-line, Meet, Over, meet-from, hull-over}
 
 pub or_assoc : (a b c : Bool) → ((a || b) || c) ≡ (a || (b || c))

@@ -5,7 +5,7 @@ use Rattle.std.proofs.lemmas.Bool.{cases_Bool, eqb-false, ltb-false}
 use Rattle.change.specs.declared.span.Span.{Span}
 use Rattle.change.specs.declared.line_range.LineRange.{LineRange}
 use Rattle.ranges.specs.declared.fault.RangeFault.{RangeFault}
-use Rattle.ranges.specs.Spans.{spans, has, any_has, whole, asked, others, merged_in, Apart}
+use Rattle.ranges.specs.Spans.{spans, has, any_has, whole, others, merged_in, Apart}
 use Rattle.ranges.specs.Adds.{zero_based, zero_based_of, merge_any, add_of, answer_of, then_of, asked_only, AskedToo}
 use Rattle.ranges.proofs.Parts.{Parted, parted, lines_from}
 use Rattle.ranges.proofs.Merges.{Some-line, all_lines, merged-parted}

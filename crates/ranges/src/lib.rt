@@ -1,5 +1,8 @@
 // Asked ranges of lines: the whole file, or ranges that are kept in order and a
 // line or more apart.
+
+#![tactic(auto)]
+
 mod adding;
 pub mod blame_ranges;
 pub mod clipped;

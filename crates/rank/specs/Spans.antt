@@ -1,9 +1,8 @@
 -- Ranges that abut, and the range that spans them.
-use Rattle.std.specs.Prelude.{◌≡◌, ℕ, ◌<◌, ◌≤◌, max, true, cond, eqb, leb, Some, None, Option, MatchOption, refl}
+use Rattle.std.specs.Prelude.{◌≡◌, ℕ, ◌<◌, ◌≤◌, max, true, Some, None, Option, MatchOption, refl}
 use Rattle.std.proofs.Common.{sym, ap, subst, ◌∙◌, arith}
 use Rattle.std.proofs.Math.Bridge.{le_prop}
-use Rattle.std.proofs.lemmas.Bool.{and_parts, eqb-true, leb-true, cond-true}
-use Rattle.change.specs.Lists.{limit}
+use Rattle.std.proofs.lemmas.Bool.{and_parts, eqb-true, cond-true}
 use Rattle.change.specs.declared.line_range.LineRange.{LineRange}
 use Rattle.rank.specs.Joins.{joint}
 use Rattle.rank.specs.Abutting.{abuts, spanning}

@@ -1,5 +1,8 @@
 // Ranked elements in tables with a limit: an element is put before the first that
 // ranks after it, and neighbours that join are made one.
+
+#![tactic(auto)]
+
 pub mod coalescing;
 pub mod entries;
 pub mod entry;

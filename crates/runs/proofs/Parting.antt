@@ -1,10 +1,10 @@
 -- The part of a run in a range has just the lines that are in both, each at its place.
-use Rattle.std.proofs.Common.{◌≡◌, ℕ, ◌+◌, ◌-◌, ◌^◌, ◌<◌, ◌≤◌, min, max, Bool, true, false, cond, ◌&&◌, ltb, Some, None, Option, sym, refl, ap, ◌∙◌, subst, inl, inr, arith}
-use Rattle.std.proofs.lemmas.Bool.{cases_Bool, and_cases, and_left, and_right, lt-ltb, le-ltb, ltb-true, ltb-false, both_ways}
+use Rattle.std.proofs.Common.{◌≡◌, ℕ, ◌+◌, ◌-◌, ◌^◌, ◌<◌, ◌≤◌, max, false, cond, ◌&&◌, ltb, Some, None, Option, sym, refl, ap, ◌∙◌, subst, inl, inr, arith}
+use Rattle.std.proofs.lemmas.Bool.{cases_Bool, and_cases, and_right, le-ltb, ltb-true, ltb-false, both_ways}
 use Rattle.std.specs.Option.{option_map}
 use Rattle.change.specs.declared.span.Span.{Span}
-use Rattle.runs.specs.Rows.{Run, place_in}
-use Rattle.runs.specs.Parts.{shared, place_fits, told, part_of, InRun, InRange, Fits, Shared}
+use Rattle.runs.specs.Rows.{Run}
+use Rattle.runs.specs.Parts.{shared, place_fits, part_of, Fits, Shared}
 
 -- the place of a line by the part, and by the run
 moved_on : (q : Option ℕ) (a b n : ℕ) → a ≤ b → b ≤ n → option_map (λ x. x + (n - b)) (option_map (λ x. x + (b - a)) q) ≡ option_map (λ x. x + (n - a)) q

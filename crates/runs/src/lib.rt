@@ -1,5 +1,8 @@
 // The lines of a commit's file as the longest runs of one origin: set by the
 // commit, or kept from the parent, where they then follow each other too.
+
+#![tactic(auto)]
+
 pub mod count;
 pub mod fault;
 pub mod part;

@@ -1,4 +1,7 @@
 // Three tables on which the cutting of hunks is timed. What calls this holds the
 // clock.
+
+#![tactic(auto)]
+
 pub mod layout;
 pub mod rounds;

@@ -1,4 +1,4 @@
-use Rattle.std.proofs.Common.{◌≡◌, sym, ◌∙◌, arith}
+use Rattle.std.proofs.Common.{sym, ◌∙◌}
 use Rattle.std.proofs.lemmas.Bool.{eqb-true, eqb-false}
 use Rattle.compare.proofs.Reading.{parts-read, whole-some, whole-none}
 use Rattle.compare.proofs.case.read_case.Goals as goal

@@ -1,5 +1,4 @@
-use Rattle.std.proofs.Common.{sym, refl, ap, ◌∙◌, arith}
-use Rattle.text.specs.Decimal.{told}
+use Rattle.std.proofs.Common.{sym, arith}
 use Rattle.compare.proofs.Reading.{placing, placing-more, placing-stop, placing-done}
 use Rattle.compare.proofs.item.suspects.Goals as goal
 

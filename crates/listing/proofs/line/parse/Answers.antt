@@ -1,6 +1,6 @@
-use Rattle.std.proofs.Common.{◌≡◌, true, false, drop, codes, sym, ap, ◌∙◌, rules}
+use Rattle.std.proofs.Common.{◌≡◌, true, false, codes, ◌∙◌, rules}
 use Rattle.std.proofs.lemmas.List.{take_rest}
-use Rattle.listing.specs.Parsing.{begins, unchanged_of, added_of, deleted_of}
+use Rattle.listing.specs.Parsing.{begins}
 use Rattle.listing.proofs.line.parse.Goals as goal
 
 pub returns-in-85 : goal.returns-in-85

@@ -1,7 +1,6 @@
-use Rattle.std.proofs.Common.{◌≡◌, ◌+◌, ◌<◌, ◌≤◌, false, [], ◌∷◌, ◌++◌, map, length, vec_items, sym, refl, ap, ◌∙◌, subst, arith}
+use Rattle.std.proofs.Common.{◌≡◌, ◌+◌, ◌<◌, false, [], ◌∷◌, ◌++◌, map, length, vec_items, sym, refl, ap, ◌∙◌, subst, arith}
 use Rattle.std.proofs.lemmas.Bool.{eqb-true, eqb-false}
 use Rattle.std.proofs.lemmas.List.{map_push, append-nil, nil_from_length}
-use Rattle.text.specs.Cuts.{line_of, rest_of}
 use Rattle.listing.specs.Entries.{entry_of, entry_at, Passed}
 use Rattle.listing.specs.Listings.{kind_of, kinds, recorded, other, lists_of, outside_of}
 use Rattle.listing.proofs.Passing.{between, between-as, between-blank, between-stray, between-list, shorter}

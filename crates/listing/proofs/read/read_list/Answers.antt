@@ -1,9 +1,7 @@
-use Rattle.std.proofs.Common.{◌≡◌, ◌+◌, ◌<◌, length, vec_items, sym, refl, ap, ◌∙◌, subst, arith}
+use Rattle.std.proofs.Common.{◌<◌, length, vec_items, sym, ap, ◌∙◌, subst, arith}
 use Rattle.std.proofs.lemmas.Bool.{eqb-true, eqb-false}
-use Rattle.text.specs.Cuts.{line_of, rest_of}
-use Rattle.listing.specs.Entries.{Passed}
 use Rattle.listing.specs.Listings.{kind_of}
-use Rattle.listing.proofs.Passing.{Inside, Ended, entry-is, inside, inside-as, shorter, inside-change, inside-other, ended-text, ended-blank, ended-heading}
+use Rattle.listing.proofs.Passing.{Ended, entry-is, inside, inside-as, shorter, inside-change, inside-other, ended-text, ended-blank, ended-heading}
 use Rattle.listing.proofs.read.read_list.Goals as goal
 use Rattle.listing.proofs.read.read_list.Goals.{in-Change+in_ok-push-in-Change, in-Other+in_ok-push-in-Other}
 use Rattle.listing.proofs.read.read_list.Goals.{else-loop-text-test, then-loop-text-test+in-Heading, then-loop-text-test+in-Blank}

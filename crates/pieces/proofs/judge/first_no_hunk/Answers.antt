@@ -1,4 +1,4 @@
-use Rattle.std.proofs.Common.{◌≡◌, ◌+◌, ◌∷◌, map, drop, sym, refl, ap, ◌∙◌}
+use Rattle.std.proofs.Common.{◌+◌, ◌∷◌, map, drop, sym, refl, ap, ◌∙◌}
 use Rattle.pieces.specs.Process.{first_none}
 use Rattle.pieces.proofs.Along.{at_row, at-end}
 use Rattle.pieces.proofs.Rowed.{not-read, read_as}

@@ -1,5 +1,5 @@
-use Rattle.std.proofs.Common.{◌≡◌, ◌+◌, true, false, cond, map, drop, Some, sym, refl, ap, ◌∙◌}
-use Rattle.pieces.specs.Process.{outside, first_outside}
+use Rattle.std.proofs.Common.{◌+◌, cond, map, drop, Some, sym, refl, ap, ◌∙◌}
+use Rattle.pieces.specs.Process.{first_outside}
 use Rattle.pieces.proofs.Along.{at_row, at-end}
 use Rattle.pieces.proofs.Rowed.{known_at}
 use Rattle.pieces.proofs.judge.first_outside.Goals as goal

@@ -1,7 +1,6 @@
-use Rattle.std.proofs.Common.{◌+◌, ◌≤◌, drop, sym, ap, ◌∙◌, arith}
+use Rattle.std.proofs.Common.{◌+◌, drop, sym, ap, ◌∙◌, arith}
 use Rattle.change.specs.declared.change.Change.TheVariants.{Unchanged, AddedOrReplaced, Deleted}
 use Rattle.change.proofs.Walks.{here}
-use Rattle.pieces.specs.Offsets.{size_of}
 use Rattle.pieces.specs.Steps.{walk_of}
 use Rattle.pieces.specs.Walkers.{weights}
 use Rattle.pieces.proofs.Skipping.{skip-unchanged, skip-added, skip-deleted, follows-at, skipped-on}

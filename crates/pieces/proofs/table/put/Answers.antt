@@ -1,4 +1,4 @@
-use Rattle.std.proofs.Common.{◌≡◌, [], ◌∷◌, ◌++◌, set, sym, subst, arith}
+use Rattle.std.proofs.Common.{[], ◌∷◌, ◌++◌, set, sym, subst, arith}
 use Rattle.hunk.specs.Rows.{piece_of}
 use Rattle.pieces.specs.Tables.{Filled}
 use Rattle.pieces.proofs.Filling.{fill_one}

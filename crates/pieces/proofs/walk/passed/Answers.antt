@@ -1,5 +1,4 @@
-use Rattle.std.proofs.Common.{◌≡◌, Some, None, unwrap_or, sym, refl, ap, ◌∙◌}
-use Rattle.std.specs.Option.{option_map}
+use Rattle.std.proofs.Common.{Some, None, unwrap_or, sym, ap, ◌∙◌}
 use Rattle.hunk.specs.Rows.{piece_of}
 use Rattle.pieces.proofs.Shifts.{moves-unnamed, moves-by}
 use Rattle.pieces.proofs.walk.passed.Goals as goal

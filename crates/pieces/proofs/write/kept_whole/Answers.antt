@@ -2,7 +2,6 @@ use Rattle.std.proofs.Common.{◌≡◌, ◌+◌, sym, ap, arith}
 use Rattle.change.specs.declared.span.Span.{Span}
 use Rattle.change.specs.declared.change.Change.TheVariants.{Unchanged}
 use Rattle.change.proofs.Walks.{here}
-use Rattle.hunk.specs.Hunks.{Piece}
 use Rattle.pieces.proofs.Rowed.{read_as}
 use Rattle.pieces.proofs.Skipping.{begins-at}
 use Rattle.pieces.proofs.Whole.{whole-told}

@@ -1,13 +1,11 @@
-use Rattle.std.proofs.Common.{◌≡◌, ℕ, ◌+◌, ◌<◌, ◌≤◌, Bool, true, false, cond, [], ◌∷◌, length, drop, Some, None, Option, sym, refl, ap, ◌∙◌, subst, inl, inr, arith}
+use Rattle.std.proofs.Common.{◌≡◌, ℕ, Bool, true, cond, length, drop, Some, None, Option, sym, ap, ◌∙◌, subst, inl, inr, arith}
 use Rattle.std.proofs.lemmas.Bool.{cases_lt, both_ways}
 use Rattle.std.proofs.lemmas.List.{drop_all}
 use Rattle.change.specs.declared.change.Change.{Change}
 use Rattle.hunk.specs.Rows.{piece_of}
-use Rattle.pieces.specs.Pieces.{pieces}
 use Rattle.pieces.specs.Steps.{Told, step_of}
 use Rattle.pieces.specs.Walkers.{weight, remains, pieces_of, head_of}
-use Rattle.pieces.specs.Offsets.{size_of}
-use Rattle.pieces.proofs.Writing.{Going, tail_of, tail_at, walk-all, going-starts, going-live, going-caught, going-fits, going-room, going_on, going-ends, dead, at_most}
+use Rattle.pieces.proofs.Writing.{Going, tail_at, walk-all, going-starts, going-live, going-caught, going-fits, going-room, going_on, going-ends, dead, at_most}
 use Rattle.pieces.proofs.write.write_pieces.Goals as goal
 
 pub loop-walker-init : goal.loop-walker-init

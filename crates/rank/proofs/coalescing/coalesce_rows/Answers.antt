@@ -1,4 +1,4 @@
-use Rattle.std.proofs.Common.{◌≡◌, arith}
+use Rattle.std.proofs.Common.{arith}
 use Rattle.rank.proofs.Along.{along-joined, along-parted, along-all}
 use Rattle.rank.proofs.coalescing.coalesce_rows.Goals as goal
 use Rattle.rank.proofs.coalescing.coalesce_rows.Goals.{in-Some, in-None}

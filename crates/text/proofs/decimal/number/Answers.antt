@@ -1,5 +1,5 @@
-use Rattle.std.proofs.Common.{◌≡◌, ◌+◌, ◌<◌, [], ◌++◌, length, get_or, take, drop, Some, sym, ap, ◌∙◌, subst, inl, inr, arith}
-use Rattle.std.proofs.lemmas.List.{append-nil, take_rest, length-take-le, at_drop_all}
+use Rattle.std.proofs.Common.{◌≡◌, ◌+◌, [], ◌++◌, length, take, drop, Some, sym, ap, ◌∙◌, inl, inr, arith}
+use Rattle.std.proofs.lemmas.List.{append-nil, take_rest, length-take-le}
 use Rattle.text.specs.Decimal.{front, back, value}
 use Rattle.text.proofs.Digits.{step, ends, too_large, no_digit, reads, value-append, value_grows}
 use Rattle.text.proofs.decimal.number.Goals as goal

@@ -1,4 +1,4 @@
-use Rattle.std.proofs.Common.{◌≡◌, sym, ap, ◌∙◌}
+use Rattle.std.proofs.Common.{sym, ap, ◌∙◌}
 use Rattle.hunk.specs.Rows.{piece_of, row_piece, row_of}
 use Rattle.pieces.proofs.Answering.{row_back}
 use Rattle.pieces.proofs.rows.HunkRowTableRow.written.Goals as goal
