@@ -1,6 +1,6 @@
 -- A suspect added behind the others.
 use Rattle.std.proofs.Common.{◌≡◌, ℕ, ◌+◌, ◌<◌, ◌≤◌, true, false, ltb, leb, List, [], ◌∷◌, ◌++◌, length, Ok, sym}
-use Rattle.std.specs.List.{AllByRecursion as All}
+use Rattle.std.specs.List.{AllByRecursion}
 use Rattle.std.proofs.ByRecursion.{All-push}
 use Rattle.std.proofs.lemmas.Bool.{le-leb, lt-ltb}
 use Rattle.change.specs.Lists.{limit}
@@ -11,11 +11,11 @@ use Rattle.hunk.specs.Hunks.{Piece, names, with_suspects}
 use Rattle.hunk.specs.Rows.{added_of}
 use Rattle.hunk.proofs.Owing.{Even, Inside, Other, Distinct, Owed}
 
-push-distinct : (ss : List Suspect) (n : Suspect) → All (Other n.source) ss → Distinct ss → Distinct (ss ++ n ∷ [])
+push-distinct : (ss : List Suspect) (n : Suspect) → AllByRecursion (Other n.source) ss → Distinct ss → Distinct (ss ++ n ∷ [])
 push-distinct [] n a d = (tt, tt)
 push-distinct (s ∷ ss) n a d = (All-push (Other s.source) ss n d.0 (λ e. a.0 (sym e)), push-distinct ss n a.1 d.1)
 
-pub push-owed : (r : Span) (ss : List Suspect) (n : Suspect) → Even r n → Inside n → All (Other n.source) ss → Owed r ss → Owed r (ss ++ n ∷ [])
+pub push-owed : (r : Span) (ss : List Suspect) (n : Suspect) → Even r n → Inside n → AllByRecursion (Other n.source) ss → Owed r ss → Owed r (ss ++ n ∷ [])
 push-owed r ss n e i a o = record {
   level = All-push (Even r) ss n o.level e;
   within = All-push Inside ss n o.within i;

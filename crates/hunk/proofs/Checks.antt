@@ -1,6 +1,6 @@
 -- The check of a row, and the row that is written.
 use Rattle.std.proofs.Common.{◌≡◌, ℕ, ◌+◌, ◌-◌, ◌<◌, ◌≤◌, Bool, true, false, ◌&&◌, List, [], ◌∷◌, ◌++◌, map, length, get_or, take, drop, replicate, sym, refl, ap, ◌∙◌, arith}
-use Rattle.std.specs.List.{AllByRecursion as All}
+use Rattle.std.specs.List.{AllByRecursion}
 use Rattle.std.proofs.lemmas.List.{at_drop_more, drop-replicate, length-map, length-take-le, take_rest}
 use Rattle.std.proofs.lemmas.Bool.{and_parts, eqb-true, ltb-true, leb-true, not-true, eqb-false}
 use Rattle.change.specs.declared.span.Span.{Span}
@@ -34,7 +34,7 @@ pub others-read : (t : Suspect → Bool) (ss : List Suspect) (i : ℕ) (b : Bool
 others-read t ss i b e = sym (e ∙ ap (every_one t) (take_rest ss i))
 
 -- the tests, as what the suspects owe
-every-all : (t : Suspect → Bool) (P : Suspect → Type 0) → ((s : Suspect) → t s ≡ true → P s) → (ss : List Suspect) → every_one t ss ≡ true → All P ss
+every-all : (t : Suspect → Bool) (P : Suspect → Type 0) → ((s : Suspect) → t s ≡ true → P s) → (ss : List Suspect) → every_one t ss ≡ true → AllByRecursion P ss
 every-all t P f [] h = tt
 every-all t P f (s ∷ ss) h =
     let b = and_parts (t s) (every_one t ss) h in
@@ -87,7 +87,7 @@ right r h =
     }
 
 -- suspects of one length are told by their starts
-again : (r : Span) (ss : List Suspect) → r.start < r.end → All (Even r) ss → map (suspect_of (r.end - r.start)) (map named ss) ≡ ss
+again : (r : Span) (ss : List Suspect) → r.start < r.end → AllByRecursion (Even r) ss → map (suspect_of (r.end - r.start)) (map named ss) ≡ ss
 again r [] l a = refl
 again r (s ∷ ss) l a =
     ap (λ x. record { source = s.source; range = x } ∷ map (suspect_of (r.end - r.start)) (map named ss)) (sym (told-by-start s.range r l a.0))

@@ -1,6 +1,6 @@
 -- What a hunk's suspects owe, as facts of their list, and back.
 use Rattle.std.proofs.Common.{◌≡◌, ℕ, zero, suc, ◌+◌, ◌<◌, ◌≤◌, List, [], ◌∷◌, length, get_or, take, sym, ap, ◌∙◌, subst, arith}
-use Rattle.std.specs.List.{AllByRecursion as All}
+use Rattle.std.specs.List.{AllByRecursion}
 use Rattle.std.proofs.lemmas.List.{get_or-take, length-take-le}
 use Rattle.std.proofs.ByRecursion.{All-get_or, All-from_get_or}
 use Rattle.change.specs.declared.span.Span.{Span}
@@ -19,20 +19,20 @@ Other c s = s.source.commit ≡ c.commit → ⊥
 
 abbrev pub Distinct : List Suspect → Type 0
 Distinct [] = Unit {0}
-Distinct (s ∷ ss) = All (Other s.source) ss × Distinct ss
+Distinct (s ∷ ss) = AllByRecursion (Other s.source) ss × Distinct ss
 
 pub record Owed (r : Span) (ss : List Suspect) : Type 0 where
-  pub level : All (Even r) ss
-  pub within : All Inside ss
+  pub level : AllByRecursion (Even r) ss
+  pub within : AllByRecursion Inside ss
   pub apart : Distinct ss
 
 -- facts of the places below n, and of the first n
-all-below : (P : Suspect → Type 0) (ss : List Suspect) (n : ℕ) → n ≤ length ss → ((i : ℕ) → i < n → P (get_or ss i blank)) → All P (take n ss)
+all-below : (P : Suspect → Type 0) (ss : List Suspect) (n : ℕ) → n ≤ length ss → ((i : ℕ) → i < n → P (get_or ss i blank)) → AllByRecursion P (take n ss)
 all-below P ss n hn f = All-from_get_or P (take n ss) blank (λ i h.
     let l : i < n = rw (length-take-le n ss hn) at h in
     subst P (sym (get_or-take n ss i blank l)) (f i l))
 
-below_all : (P : Suspect → Type 0) (ss : List Suspect) (n : ℕ) → n ≤ length ss → All P (take n ss) → (i : ℕ) → i < n → P (get_or ss i blank)
+below_all : (P : Suspect → Type 0) (ss : List Suspect) (n : ℕ) → n ≤ length ss → AllByRecursion P (take n ss) → (i : ℕ) → i < n → P (get_or ss i blank)
 below_all P ss n hn a i h =
     let l : i < length (take n ss) = rw (length-take-le n ss hn) h in
     subst P (get_or-take n ss i blank h) (All-get_or P (take n ss) i blank l a)

@@ -1,6 +1,6 @@
 -- A suspect renamed in its place, and a suspect dropped.
 use Rattle.std.proofs.Common.{◌≡◌, ℕ, ◌+◌, ◌<◌, ◌≤◌, Bool, true, false, cond, List, [], ◌∷◌, ◌++◌, map, length, get_or, take, set, filter, sym, refl, ap, ◌∙◌, inl, inr, arith}
-use Rattle.std.specs.List.{AllByRecursion as All}
+use Rattle.std.specs.List.{AllByRecursion}
 use Rattle.std.proofs.lemmas.List.{append-nil, get_or-map, length-map, length-take-le, take_more_set}
 use Rattle.std.proofs.lemmas.List.Elements.{filter_more}
 use Rattle.std.proofs.ByRecursion.{All-map, All-weaker, all_kept_by}
@@ -45,8 +45,8 @@ one-other true false n s o never a b d e = b e
 one-other false true n s o never a b d e = a (sym e)
 one-other false false n s o never a b d e = d e
 
-others : (c : Source) (n s : Suspect) (ss : List Suspect) → Other n.source s → All (Other n.source) ss → All (Other s.source) ss
-    → All (Other (swap c n s).source) (map (swap c n) ss)
+others : (c : Source) (n s : Suspect) (ss : List Suspect) → Other n.source s → AllByRecursion (Other n.source) ss → AllByRecursion (Other s.source) ss
+    → AllByRecursion (Other (swap c n s).source) (map (swap c n) ss)
 others c n s [] a b d = tt
 others c n s (o ∷ os) a b d = (
   one-other (same_source s.source c) (same_source o.source c) n s o
@@ -54,15 +54,15 @@ others c n s (o ∷ os) a b d = (
   others c n s os a b.1 d.1,
 )
 
-swap-distinct : (c : Source) (n : Suspect) (ss : List Suspect) → All (Other n.source) ss → Distinct ss → Distinct (map (swap c n) ss)
+swap-distinct : (c : Source) (n : Suspect) (ss : List Suspect) → AllByRecursion (Other n.source) ss → Distinct ss → Distinct (map (swap c n) ss)
 swap-distinct c n [] a d = tt
 swap-distinct c n (s ∷ ss) a d = (others c n s ss a.0 a.1 d.0, swap-distinct c n ss a.1 d.1)
 
-swap-all : (P : Suspect → Type 0) (c : Source) (n : Suspect) (ss : List Suspect) → P n → All P ss → All P (map (swap c n) ss)
+swap-all : (P : Suspect → Type 0) (c : Source) (n : Suspect) (ss : List Suspect) → P n → AllByRecursion P ss → AllByRecursion P (map (swap c n) ss)
 swap-all P c n ss p a =
     All-map P (swap c n) ss (All-weaker P (λ s. P (swap c n s)) (λ s h. cond_both (same_source s.source c) n s P (λ _. p) (λ _. h)) ss a)
 
-pub swap-owed : (r : Span) (c : Source) (n : Suspect) (ss : List Suspect) → Even r n → Inside n → All (Other n.source) ss → Owed r ss → Owed r (map (swap c n) ss)
+pub swap-owed : (r : Span) (c : Source) (n : Suspect) (ss : List Suspect) → Even r n → Inside n → AllByRecursion (Other n.source) ss → Owed r ss → Owed r (map (swap c n) ss)
 swap-owed r c n ss e i a o = record {
   level = swap-all (Even r) c n ss e o.level;
   within = swap-all Inside c n ss i o.within;
@@ -70,7 +70,7 @@ swap-owed r c n ss e i a o = record {
 }
 
 -- a commit that the hunk does not name
-pub unnamed : (c : Source) (ss : List Suspect) → has (start_in c (map named ss)) ≡ false → All (Other c) ss
+pub unnamed : (c : Source) (ss : List Suspect) → has (start_in c (map named ss)) ≡ false → AllByRecursion (Other c) ss
 unnamed c [] h = tt
 unnamed c (s ∷ ss) h =
     elim (cases_Bool (same_source s.source c)) [

@@ -1,6 +1,6 @@
 -- A row that is a hunk, read and changed where it lies.
 use Rattle.std.proofs.Common.{◌≡◌, ◌-◌, ◌<◌, ◌≤◌, min, true, List, [], ◌∷◌, ◌++◌, map, length, take, replicate, Some, sym, refl, ap, ◌∙◌, inl, inr, arith}
-use Rattle.std.specs.List.{AllByRecursion as All}
+use Rattle.std.specs.List.{AllByRecursion}
 use Rattle.std.proofs.lemmas.List.{length-map, length-take-le}
 use Rattle.std.proofs.lemmas.Bool.{cases_Bool}
 use Rattle.std.specs.Option.{option_map}
@@ -17,7 +17,7 @@ use Rattle.hunk.proofs.Checks.{right, same_row}
 
 module _ (r : Span) (l : r.start < r.end) where
   -- the range of a suspect is told by its start
-  range-told : (c : Source) (ss : List Suspect) → All (Even r) ss → range_at c ss ≡ option_map (span_of (r.end - r.start)) (start_in c (map named ss))
+  range-told : (c : Source) (ss : List Suspect) → AllByRecursion (Even r) ss → range_at c ss ≡ option_map (span_of (r.end - r.start)) (start_in c (map named ss))
   range-told c [] a = refl
   range-told c (s ∷ ss) a =
       elim (cases_Bool (same_source s.source c)) [
@@ -25,7 +25,7 @@ module _ (r : Span) (l : r.start < r.end) where
         | inr b ↦ rw b (range-told c ss a.1)
       ]
 
-  renames-told : (c p : Source) (x : Span) → x ≡ span_of (r.end - r.start) x.start → (ss : List Suspect) → All (Even r) ss
+  renames-told : (c p : Source) (x : Span) → x ≡ span_of (r.end - r.start) x.start → (ss : List Suspect) → AllByRecursion (Even r) ss
       → map (rename_at c p x) ss ≡ map (suspect_of (r.end - r.start)) (map (rename c p x.start) (map named ss))
   renames-told c p x e [] a = refl
   renames-told c p x e (s ∷ ss) a =

@@ -1,6 +1,6 @@
 -- What is answered once the refusals before it do not apply; and rows that are written.
 use Rattle.std.proofs.Common.{◌≡◌, ℕ, ◌+◌, ◌-◌, true, false, leb, List, [], ◌∷◌, ◌++◌, map, length, take, drop, replicate, Some, None, Ok, Err, Option, Result, sym, refl, ap, ◌∙◌, subst, inl, inr, arith}
-use Rattle.std.specs.List.{AllByRecursion as All}
+use Rattle.std.specs.List.{AllByRecursion}
 use Rattle.std.proofs.lemmas.Bool.{cases_Bool}
 use Rattle.std.proofs.lemmas.List.{take_at, length-map, take-append-drop}
 use Rattle.change.specs.declared.change.Change.{Change}
@@ -71,7 +71,7 @@ row_back p =
     same g h = rw (g, h)
 
 -- rows that are written exactly are the rows of their pieces
-rows-exact : (rs : List HunkRow) → All (λ r. r ≡ row_of (row_piece r)) rs → rs ≡ map row_of (map row_piece rs)
+rows-exact : (rs : List HunkRow) → AllByRecursion (λ r. r ≡ row_of (row_piece r)) rs → rs ≡ map row_of (map row_piece rs)
 rows-exact [] a = refl
 rows-exact (r ∷ rs) a = ap (λ x. x ∷ rs) a.0 ∙ ap (λ l. row_of (row_piece r) ∷ l) (rows-exact rs a.1)
 

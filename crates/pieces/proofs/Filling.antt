@@ -1,7 +1,7 @@
 -- A table as pieces are written to it.
 use Rattle.std.proofs.Common.{◌≡◌, ℕ, ◌+◌, ◌-◌, ◌<◌, ◌≤◌, List, [], ◌∷◌, ◌++◌, map, length, take, drop, set, sym, refl, ap, ◌∙◌, subst, arith}
 use borrow.Rule.Slice.PartMut.{put_mid}
-use Rattle.std.specs.List.{AllByRecursion as All}
+use Rattle.std.specs.List.{AllByRecursion}
 use Rattle.std.proofs.lemmas.List.{length_push, length-set, length-append, length-drop, length-take-le, take_more_set, take-append-drop, take_at, take_rest, drop_at, drop_all, drop-set-lt, drop-drop, map-append, map_push, append_assoc, append-nil}
 use Rattle.std.proofs.ByRecursion.{All-push, All-append}
 use Rattle.hunk.specs.Hunks.{Piece}
@@ -19,7 +19,7 @@ module _ {R : Type 0} (means : R → Piece) (exact : R → Type 0) (entry : List
       ap (λ k. take k (set out (length ps) r)) n ∙ take_more_set out (length ps) r l in
       record {
         pieces = ap (map means) t ∙ map_push means (take (length ps) out) r ∙ ap (λ y. map means (take (length ps) out) ++ y ∷ []) m ∙ ap (λ q. q ++ p ∷ []) f.pieces;
-        exacts = subst (All exact) (sym t) (All-push exact (take (length ps) out) r f.exacts x);
+        exacts = subst (AllByRecursion exact) (sym t) (All-push exact (take (length ps) out) r f.exacts x);
         rest =
             ap (λ k. drop k (set out (length ps) r)) n ∙ drop-set-lt (length ps + 1) out (length ps) r (omega arith)
             ∙ sym (drop-drop 1 (length ps) out) ∙ ap (drop 1) f.rest ∙ drop-drop 1 (length ps) entry ∙ sym (ap (λ k. drop k entry) n);
@@ -50,7 +50,7 @@ fill-tail means exact entry old new ready ps n e l f w fit =
     record {
       pieces = ap (map means) (t ∙ ap (λ z. z ++ take (length ps) new) old-ready) ∙ map-append means (take (length ready) old) (take (length ps) new)
           ∙ ap (λ z. z ++ map means (take (length ps) new)) f.pieces ∙ ap (λ z. ready ++ z) w.pieces;
-      exacts = subst (All exact) (sym (t ∙ ap (λ z. z ++ take (length ps) new) old-ready)) (All-append exact (take (length ready) old) (take (length ps) new) f.exacts w.exacts);
+      exacts = subst (AllByRecursion exact) (sym (t ∙ ap (λ z. z ++ take (length ps) new) old-ready)) (All-append exact (take (length ready) old) (take (length ps) new) f.exacts w.exacts);
       rest = ap (λ k. drop k (take n old ++ new)) len ∙ q.1 ∙ w.rest ∙ ap (drop (length ps)) tail ∙ drop-drop (length ps) n old
           ∙ sym (drop-drop (length ps) n old) ∙ ap (drop (length ps)) (ap (λ k. drop k old) e ∙ f.rest ∙ ap (λ k. drop k entry) (sym e)) ∙ drop-drop (length ps) n entry ∙ sym (ap (λ k. drop k entry) len);
       long = length-append (take n old) new ∙ omega (arith, size, w.long, ap length tail, length-drop n old, f.long);

@@ -1,6 +1,6 @@
 -- The pieces of a hunk cover it, and each of its lines goes where the list says.
 use Rattle.std.proofs.Common.{◌≡◌, ℕ, ◌+◌, ◌-◌, ◌<◌, ◌≤◌, false, ◌&&◌, ltb, ◌⊎◌, List, [], ◌∷◌, map, Some, None, Option, sym, refl, ap, ◌∙◌, subst, inl, inr, ⊎_elim, arith}
-use Rattle.std.specs.List.{AllByRecursion as All}
+use Rattle.std.specs.List.{AllByRecursion}
 use Rattle.std.proofs.ByRecursion.{All-weaker}
 use Rattle.std.proofs.lemmas.Bool.{cond_both, and_parts, and_cases, ltb-true, ltb-false}
 use Rattle.change.specs.declared.change.Change.{Change}
@@ -52,7 +52,7 @@ Unbroken cs x size = (n : ℕ) → x < n → n < x + size → Not-at n (cuts cs)
 
 -- pieces that cover a hunk, each line where it goes
 abbrev Covered : Source → Source → List Change → Piece → ℕ → List Piece → Type 0
-Covered c p cs h x gs = Follow h.asked (h.asked + h.size) gs × All (Line c p cs h x) gs
+Covered c p cs h x gs = Follow h.asked (h.asked + h.size) gs × AllByRecursion (Line c p cs h x) gs
 
 module _ (c p : Source) (cs : List Change) (h : Piece) (x : ℕ) where
   -- a hunk with no cut inside is one piece

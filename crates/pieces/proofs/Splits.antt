@@ -1,6 +1,6 @@
 -- Cutting all hunks at one line after another is splitting each hunk along the cuts.
 use Rattle.std.proofs.Common.{◌≡◌, ℕ, ◌+◌, ◌-◌, ◌<◌, ◌≤◌, false, cond, ◌&&◌, ltb, ◌⊎◌, List, [], ◌∷◌, ◌++◌, map, Some, None, Option, sym, refl, ap, ◌∙◌, subst, inl, inr, ⊎_elim, append_assoc, append-nil, arith}
-use Rattle.std.specs.List.{AllByRecursion as All}
+use Rattle.std.specs.List.{AllByRecursion}
 use Rattle.std.proofs.lemmas.List.{map-append}
 use Rattle.std.proofs.ByRecursion.{All-weaker}
 use Rattle.std.proofs.lemmas.Bool.{cases_Bool, cond-false, and_parts, and_left, and_right, ltb-true, le-ltb}
@@ -17,7 +17,7 @@ pub rises-from : (a b : ℕ) (ks : List ℕ) → a ≤ b → Rises b ks → Rise
 rises-from a b [] l r = tt
 rises-from a b (k ∷ ks) l r = (omega (arith, r.0), r.1)
 
-pub rises-all : (a : ℕ) (ks : List ℕ) → Rises a ks → All (λ k. a ≤ k) ks
+pub rises-all : (a : ℕ) (ks : List ℕ) → Rises a ks → AllByRecursion (λ k. a ≤ k) ks
 rises-all a [] r = tt
 rises-all a (k ∷ ks) r = (r.0, rises-all a ks (rises-from a k ks r.0 r.1))
 
@@ -50,7 +50,7 @@ pub not-inside : (x size k : ℕ) → Clear x size k → (ltb x k && ltb k (x + 
 not-inside x size k o = ⊎_elim (λ l. and_left _ _ (le-ltb _ _ l)) (λ l. and_right _ _ (le-ltb _ _ l)) o
 
 abbrev pub Uncut : Source → Piece → List ℕ → Type 0
-Uncut c h ks = (x : ℕ) → start_in c h.suspects ≡ Some x → All (Clear x h.size) ks
+Uncut c h ks = (x : ℕ) → start_in c h.suspects ≡ Some x → AllByRecursion (Clear x h.size) ks
 
 passed-by : {B : Type 0} (size k : ℕ) (o : Option ℕ) (a : ℕ → B) (b r : B) → b ≡ r → ((x : ℕ) → o ≡ Some x → Clear x size k)
     → on_some o r (λ x. cond (ltb x k && ltb k (x + size)) (a x) b) ≡ r

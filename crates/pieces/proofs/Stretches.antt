@@ -1,6 +1,6 @@
 -- Lines with no cut between them are kept side by side, or none of them is kept.
 use Rattle.std.proofs.Common.{◌≡◌, ℕ, zero, suc, ◌+◌, ◌-◌, ◌<◌, ◌≤◌, true, false, ltb, List, [], ◌∷◌, Some, None, Option, sym, refl, ap, ◌∙◌, subst, inl, inr, arith}
-use Rattle.std.specs.List.{AllByRecursion as All}
+use Rattle.std.specs.List.{AllByRecursion}
 use Rattle.std.proofs.lemmas.Bool.{cases_lt, lt-ltb, le-ltb}
 use Rattle.change.specs.declared.change.Change.{Change}
 use Rattle.change.specs.declared.change.Change.TheVariants.{Unchanged, AddedOrReplaced, Deleted}
@@ -12,7 +12,7 @@ use Rattle.pieces.proofs.Splits.{ahead}
 
 -- none of the cuts is at n
 abbrev pub Not-at : ℕ → List ℕ → Type 0
-Not-at n ks = All (λ k. k ≡ n → ⊥) ks
+Not-at n ks = AllByRecursion (λ k. k ≡ n → ⊥) ks
 
 -- a list that begins with no cut keeps its first line
 begins : (cs : List Change) (at a d : ℕ) → Follows at cs → 0 < new_total cs → Not-at at (cuts cs) → walk a d cs at ≡ Some (at - a + d)

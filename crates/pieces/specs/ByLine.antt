@@ -1,6 +1,6 @@
 -- What becomes of each line of a hunk that a change list of c against its parent p cuts. Assumes nothing.
 use Rattle.std.specs.Prelude.{◌≡◌, ℕ, ◌+◌, ◌-◌, ◌<◌, ◌≤◌, false, List, [], ◌∷◌, Some, None, Option}
-use Rattle.std.specs.List.{AllByRecursion as All}
+use Rattle.std.specs.List.{AllByRecursion}
 use Rattle.change.specs.declared.change.Change.{Change}
 use Rattle.change.specs.Lists.{new_total, Valid}
 use Rattle.change.specs.Places.{kept}
@@ -34,4 +34,4 @@ module _ (c p : Source) (cs : List Change) (h : Piece) (x : ℕ) where
 abbrev pub PiecesByLine : Type 0
 PiecesByLine = (c p : Source) (cs : List Change) (h : Piece) (x : ℕ) → same_source c p ≡ false → Valid cs
     → start_in c h.suspects ≡ Some x → 0 < h.size → x + h.size ≤ new_total cs
-    → Follow h.asked (h.asked + h.size) (pieces c p cs (h ∷ [])) × All (Line c p cs h x) (pieces c p cs (h ∷ []))
+    → Follow h.asked (h.asked + h.size) (pieces c p cs (h ∷ [])) × AllByRecursion (Line c p cs h x) (pieces c p cs (h ∷ []))

@@ -1,6 +1,6 @@
 -- The lines that are asked with one more range merged in: its own, and those of the ranges before.
 use Rattle.std.proofs.Common.{◌≡◌, ℕ, Bool, true, false, ◌||◌, List, [], ◌∷◌, fold, filter, refl, ap, ◌∙◌, inl, inr, arith}
-use Rattle.std.specs.List.{AllByRecursion as All}
+use Rattle.std.specs.List.{AllByRecursion}
 use Rattle.std.proofs.lemmas.Bool.{cases_Bool}
 use Rattle.std.proofs.lemmas.Bool.Decides.{nat_tests}
 use Rattle.change.specs.declared.span.Span.{Span}
@@ -20,7 +20,7 @@ or_swap false b c = refl
 hull-has : (m t : Span) (k : ℕ) → Some-line m → Some-line t → Meet m t → has (hull m t) k ≡ (has m k || has t k)
 hull-has m t k l h e = grind (arith, nat_tests)
 
-parts-have : (n : Span) (k : ℕ) (rs : List Span) → All Some-line rs → (m : Span) → Some-line m → Over n m
+parts-have : (n : Span) (k : ℕ) (rs : List Span) → AllByRecursion Some-line rs → (m : Span) → Some-line m → Over n m
     → (has (fold hull m (filter (touches n) rs)) k || any_has (filter (is_apart n) rs) k) ≡ (has m k || any_has rs k)
 parts-have n k [] a m l o = refl
 parts-have n k (t ∷ ts) a m l o =
@@ -49,7 +49,7 @@ put_some : (x : Span) (ys : List Span) → whole (put later x ys) ≡ false
 put_some x [] = refl
 put_some x (y ∷ ys) = elim (cases_Bool (later y x)) [ inl e ↦ rw e refl | inr e ↦ rw e refl ]
 
-pub merged-has : (n : Span) (rs : List Span) → Some-line n → All Some-line rs → (k : ℕ) → any_has (merged_in n rs) k ≡ (has n k || any_has rs k)
+pub merged-has : (n : Span) (rs : List Span) → Some-line n → AllByRecursion Some-line rs → (k : ℕ) → any_has (merged_in n rs) k ≡ (has n k || any_has rs k)
 merged-has n rs l a k = put_has (merged n rs) k (others n rs) ∙ parts-have n k rs a n l (omega arith, omega arith)
 
 pub merged_some : (n : Span) (rs : List Span) → whole (merged_in n rs) ≡ false

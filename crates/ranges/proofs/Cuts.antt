@@ -1,6 +1,6 @@
 -- Ranges cut to a line count: the lines below it, still in order and apart.
 use Rattle.std.proofs.Common.{◌≡◌, ℕ, ◌-◌, ◌≤◌, Bool, true, false, ◌&&◌, ◌||◌, ltb, List, [], ◌∷◌, length, replicate, filter, sym, refl, ap, ◌∙◌, subst, inl, inr, arith}
-use Rattle.std.specs.List.{AllByRecursion as All}
+use Rattle.std.specs.List.{AllByRecursion}
 use Rattle.std.proofs.lemmas.List.{take_at}
 use Rattle.std.proofs.ByRecursion.{All-get_or, All-map, all_kept_by, All-weaker}
 use Rattle.std.proofs.lemmas.Bool.{both_ways, cases_Bool, ltb-true}
@@ -49,16 +49,16 @@ cut-parted n (r ∷ rs) p =
       | inr e ↦ rw e (cut-parted n rs p.2)
     ]
   where
-    behind : (ts : List Span) → All (Before r) ts → All (Before (cut n r)) (cut_all n ts)
+    behind : (ts : List Span) → AllByRecursion (Before r) ts → AllByRecursion (Before (cut n r)) (cut_all n ts)
     behind ts a =
         All-map (Before (cut n r)) (cut n) (filter (begins n) ts)
         (All-weaker (Before r) (λ t. Before (cut n r) (cut n t)) (λ t b. omega arith) (filter (begins n) ts) (all_kept_by (begins n) (Before r) ts a))
 
-cut-ends : (n : ℕ) (rs : List Span) → All (λ r. r.end ≤ n) (cut_all n rs)
+cut-ends : (n : ℕ) (rs : List Span) → AllByRecursion (λ r. r.end ≤ n) (cut_all n rs)
 cut-ends n [] = tt
 cut-ends n (r ∷ rs) = elim (cases_Bool (begins n r)) [ inl e ↦ rw e (omega arith, cut-ends n rs) | inr e ↦ rw e (cut-ends n rs) ]
 
-within : (n : ℕ) (rs : List Span) → Parted rs → All (λ r. r.end ≤ n) rs → Within n rs
+within : (n : ℕ) (rs : List Span) → Parted rs → AllByRecursion (λ r. r.end ≤ n) rs → Within n rs
 within n rs p a = record { apart = apart_of rs p; lines = lines_of rs p; ends = λ i h. All-get_or (λ r. r.end ≤ n) rs i blank h a }
 
 pub clip-within : (n : ℕ) (rs : List Span) → Parted rs → Within n (clip_of n rs)

@@ -1,6 +1,6 @@
 -- The ranges stay in order and apart with one more merged in.
 use Rattle.std.proofs.Common.{◌≡◌, ◌<◌, ◌≤◌, true, false, ◌⊎◌, List, [], ◌∷◌, fold, filter, inl, inr, arith}
-use Rattle.std.specs.List.{AllByRecursion as All}
+use Rattle.std.specs.List.{AllByRecursion}
 use Rattle.std.proofs.ByRecursion.{all_kept_by, All-weaker}
 use Rattle.std.proofs.lemmas.Bool.{both_ways, cases_Bool, ltb-true, ltb-false, not-true, not-false, or_cases, or_parts}
 use Rattle.change.specs.declared.span.Span.{Span}
@@ -52,7 +52,7 @@ hull-away r m t l k e a b =
       | inr p ↦ elim b [ inl q ↦ absurd (omega arith) | inr q ↦ inr (omega arith) ]
     ]
 
-merged-away : (n r : Span) → Some-line r → (rs : List Span) → All (λ t. Some-line t × (touches n t ≡ true → Away r t)) rs
+merged-away : (n r : Span) → Some-line r → (rs : List Span) → AllByRecursion (λ t. Some-line t × (touches n t ≡ true → Away r t)) rs
     → (m : Span) → Over n m → Away r m → Away r (fold hull m (filter (touches n) rs))
 merged-away n r l [] h m o a = a
 merged-away n r l (t ∷ ts) h m o a =
@@ -63,22 +63,22 @@ merged-away n r l (t ∷ ts) h m o a =
       | inr e ↦ rw e (merged-away n r l ts h.1 m o a)
     ]
 
-all_both : {X : Type 0} (P Q R : X → Type 0) → ((x : X) → P x → Q x → R x) → (xs : List X) → All P xs → All Q xs → All R xs
+all_both : {X : Type 0} (P Q R : X → Type 0) → ((x : X) → P x → Q x → R x) → (xs : List X) → AllByRecursion P xs → AllByRecursion Q xs → AllByRecursion R xs
 all_both P Q R f [] p q = tt
 all_both P Q R f (x ∷ xs) p q = (f x p.0 q.0, all_both P Q R f xs p.1 q.1)
 
-pub all_lines : (rs : List Span) → Parted rs → All Some-line rs
+pub all_lines : (rs : List Span) → Parted rs → AllByRecursion Some-line rs
 all_lines [] p = tt
 all_lines (r ∷ rs) p = (p.0, all_lines rs p.2)
 
 -- of ranges that are apart, one that n touches is away from one that it does not
 abbrev Clear : Span → List Span → Span → Type 0
-Clear n rs r = touches n r ≡ false → All (λ t. Some-line t × (touches n t ≡ true → Away r t)) rs
+Clear n rs r = touches n r ≡ false → AllByRecursion (λ t. Some-line t × (touches n t ≡ true → Away r t)) rs
 
 clear-more : (n x r : Span) (xs : List Span) → Some-line x → Before x r → Clear n xs r → Clear n (x ∷ xs) r
 clear-more n x r xs l b h f = ((l, λ _. inr b), h f)
 
-all-clear : (n : Span) (rs : List Span) → Parted rs → All (Clear n rs) rs
+all-clear : (n : Span) (rs : List Span) → Parted rs → AllByRecursion (Clear n rs) rs
 all-clear n [] p = tt
 all-clear n (x ∷ xs) p = (
   λ f. ((p.0, λ e. absurd (both_ways _ f e)), all_both Some-line (Before x) (λ t. Some-line t × (touches n t ≡ true → Away x t)) (λ t l b. (l, λ _. inl b)) xs (all_lines xs p.2) p.1),
@@ -86,7 +86,7 @@ all-clear n (x ∷ xs) p = (
 )
 
 -- the merged range is away from each of the others
-others-away : (n : Span) (rs xs : List Span) → All Some-line xs → All (Clear n rs) xs → All (Away (merged n rs)) (filter (is_apart n) xs)
+others-away : (n : Span) (rs xs : List Span) → AllByRecursion Some-line xs → AllByRecursion (Clear n rs) xs → AllByRecursion (Away (merged n rs)) (filter (is_apart n) xs)
 others-away n rs [] l h = tt
 others-away n rs (x ∷ xs) l h =
     elim (cases_Bool (touches n x)) [
@@ -106,7 +106,7 @@ kept-parted n (r ∷ rs) p =
     ]
 
 -- a range that is away from all of them, put in by its start
-put-parted : (x : Span) (ys : List Span) → Some-line x → Parted ys → All (Away x) ys → Parted (put later x ys)
+put-parted : (x : Span) (ys : List Span) → Some-line x → Parted ys → AllByRecursion (Away x) ys → Parted (put later x ys)
 put-parted x [] l p a = (l, tt, tt)
 put-parted x (y ∷ ys) l p a =
     elim (cases_Bool (later y x)) [

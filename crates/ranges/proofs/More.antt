@@ -1,6 +1,6 @@
 -- A range added: the ranges stay in order and apart, and its lines are asked too.
 use Rattle.std.proofs.Common.{◌≡◌, ℕ, false, ◌||◌, eqb, ltb, List, [], ◌∷◌, length, IfOk, Ok, Err, Result, sym, refl, ap, ◌∙◌, subst, inl, inr, arith}
-use Rattle.std.specs.List.{AllByRecursion as All}
+use Rattle.std.specs.List.{AllByRecursion}
 use Rattle.std.proofs.lemmas.Bool.{cases_Bool, eqb-false, ltb-false}
 use Rattle.change.specs.declared.span.Span.{Span}
 use Rattle.change.specs.declared.line_range.LineRange.{LineRange}
@@ -12,7 +12,7 @@ use Rattle.ranges.proofs.Merges.{Some-line, all_lines, merged-parted}
 use Rattle.ranges.proofs.Asks.{merged-has, merged_some}
 
 -- a row has a line by its type
-rows-lines : (rows : List LineRange) → All Some-line (spans rows)
+rows-lines : (rows : List LineRange) → AllByRecursion Some-line (spans rows)
 rows-lines [] = tt
 rows-lines (r ∷ rs) = (r.lines, rows-lines rs)
 

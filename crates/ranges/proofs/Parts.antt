@@ -1,6 +1,6 @@
 -- Ranges in order and apart, as a list.
 use Rattle.std.proofs.Common.{zero, suc, ◌<◌, List, [], ◌∷◌, arith}
-use Rattle.std.specs.List.{AllByRecursion as All}
+use Rattle.std.specs.List.{AllByRecursion}
 use Rattle.std.proofs.ByRecursion.{All-from_get_or, All-get_or}
 use Rattle.change.specs.declared.span.Span.{Span}
 use Rattle.ranges.specs.Spans.{blank, Apart, Lines}
@@ -11,7 +11,7 @@ Before r s = r.end < s.start
 
 abbrev pub Parted : List Span → Type 0
 Parted [] = Unit {0}
-Parted (r ∷ rs) = (r.start < r.end) × All (Before r) rs × Parted rs
+Parted (r ∷ rs) = (r.start < r.end) × AllByRecursion (Before r) rs × Parted rs
 
 pub parted : (rs : List Span) → Lines rs → Apart rs → Parted rs
 parted [] l a = tt
@@ -21,7 +21,7 @@ parted (r ∷ rs) l a = (
   parted rs (λ i h. l (suc i) (omega arith)) (λ i j h k. a (suc i) (suc j) (omega arith) (omega arith)),
 )
 
-pub lines_from : (rs : List Span) → All (λ r. r.start < r.end) rs → Lines rs
+pub lines_from : (rs : List Span) → AllByRecursion (λ r. r.start < r.end) rs → Lines rs
 lines_from rs a i h = All-get_or (λ r. r.start < r.end) rs i blank h a
 
 pub lines_of : (rs : List Span) → Parted rs → Lines rs

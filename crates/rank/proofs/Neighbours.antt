@@ -1,6 +1,6 @@
 -- What neighbours that join come to, once they are made one from the first on.
 use Rattle.std.proofs.Common.{◌≡◌, Bool, true, false, cond, List, [], ◌∷◌, ◌++◌, sym, refl, ap, ◌∙◌, ⊎_elim}
-use Rattle.std.specs.List.{AllByRecursion as All}
+use Rattle.std.specs.List.{AllByRecursion}
 use Rattle.std.proofs.lemmas.Bool.{cond-true, cond-false, cond_both, cases_Bool}
 use Rattle.std.proofs.ByRecursion.{All-weaker}
 use Rattle.rank.specs.Ranks.{InOrder}
@@ -60,14 +60,14 @@ module _ {X : Type 0} (joins : X → X → Bool) (joined : X → X → X) where
 
   -- an order by a rank that joining leaves
   module _ (after : X → X → Bool) (rank : (a b c : X) → joins a b ≡ true → (after (joined a b) c ≡ after a c) × (after c (joined a b) ≡ after c a)) where
-    none_after : (w x : X) (xs : List X) → after w x ≡ false → All (λ z. after w z ≡ false) xs → All (λ z. after w z ≡ false) (from joins joined x xs)
+    none_after : (w x : X) (xs : List X) → after w x ≡ false → AllByRecursion (λ z. after w z ≡ false) xs → AllByRecursion (λ z. after w z ≡ false) (from joins joined x xs)
     none_after w x [] h a = (h, tt)
     none_after w x (y ∷ ys) h a =
-        cond_both (joins x y) (from joins joined (joined x y) ys) (x ∷ from joins joined y ys) (All (λ z. after w z ≡ false))
+        cond_both (joins x y) (from joins joined (joined x y) ys) (x ∷ from joins joined y ys) (AllByRecursion (λ z. after w z ≡ false))
         (λ e. none_after w (joined x y) ys ((rank x y w e).1 ∙ h) a.1)
         (λ e. (h, none_after w y ys a.0 a.1))
 
-    from-in-order : (x : X) (xs : List X) → All (λ z. after x z ≡ false) xs → InOrder after xs → InOrder after (from joins joined x xs)
+    from-in-order : (x : X) (xs : List X) → AllByRecursion (λ z. after x z ≡ false) xs → InOrder after xs → InOrder after (from joins joined x xs)
     from-in-order x [] a o = (tt, tt)
     from-in-order x (y ∷ ys) a o =
         cond_both (joins x y) (from joins joined (joined x y) ys) (x ∷ from joins joined y ys) (InOrder after)

@@ -1,6 +1,6 @@
 -- Where an element is put, and that what is in order stays so.
 use Rattle.std.proofs.Common.{◌≡◌, ℕ, suc, ◌+◌, ◌<◌, ◌≤◌, Bool, true, false, cond, List, [], ◌∷◌, ◌++◌, length, get_or, take, drop, sym, refl, ap, ◌∙◌, suc-le-suc, zero-le}
-use Rattle.std.specs.List.{insert, AllByRecursion as All}
+use Rattle.std.specs.List.{insert, AllByRecursion}
 use Rattle.std.proofs.lemmas.List.{at_drop_more}
 use Rattle.std.proofs.lemmas.Bool.{cond_both, cond-true, cond-false}
 use Rattle.std.proofs.ByRecursion.{All-weaker}
@@ -38,10 +38,10 @@ module _ {X : Type 0} (after : X → X → Bool) (x : X) where
   put-among xs out e = record { place = place_of after x xs; within = place-within xs; is = e ∙ put_is xs }
 
   -- what holds of x and of each element holds of each when x is put among them
-  pub put_all : (P : X → Type 0) (xs : List X) → P x → All P xs → All P (put after x xs)
+  pub put_all : (P : X → Type 0) (xs : List X) → P x → AllByRecursion P xs → AllByRecursion P (put after x xs)
   put_all P [] p a = (p, tt)
   put_all P (y ∷ ys) p a =
-      elim (after y x) as (λ b. All P (cond b (x ∷ y ∷ ys) (y ∷ put after x ys))) [ true ↦ (p, a) | false ↦ (a.0, put_all P ys p a.1) ]
+      elim (after y x) as (λ b. AllByRecursion P (cond b (x ∷ y ∷ ys) (y ∷ put after x ys))) [ true ↦ (p, a) | false ↦ (a.0, put_all P ys p a.1) ]
 
   module _ (total : (a b : X) → after a b ≡ true → after b a ≡ false) (transitive : (a b c : X) → after a b ≡ false → after b c ≡ false → after a c ≡ false) where
     pub put-in-order : (xs : List X) → InOrder after xs → InOrder after (put after x xs)

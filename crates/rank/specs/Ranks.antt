@@ -1,11 +1,11 @@
 -- Elements in the order of a ranking, where `after a b` says that a ranks after b, and where one is put among them. Assumes nothing.
 use Rattle.std.specs.Prelude.{◌≡◌, ℕ, suc, ◌≤◌, Bool, false, cond, List, [], ◌∷◌, ◌++◌, length, take, drop}
-use Rattle.std.specs.List.{AllByRecursion as All}
+use Rattle.std.specs.List.{AllByRecursion}
 
 -- no element ranks after a later one
 abbrev pub InOrder : {X : Type 0} → (X → X → Bool) → List X → Type 0
 InOrder after [] = Unit {0}
-InOrder after (x ∷ xs) = All (λ y. after x y ≡ false) xs × InOrder after xs
+InOrder after (x ∷ xs) = AllByRecursion (λ y. after x y ≡ false) xs × InOrder after xs
 
 -- x before the first element that ranks after it, else at the end
 abbrev pub put : {X : Type 0} → (X → X → Bool) → X → List X → List X
