@@ -1,12 +1,11 @@
 -- Rows that can be read as hunks.
-use Rattle.std.proofs.Common.{◌≡◌, ℕ, zero, suc, ◌+◌, ◌<◌, true, false, List, [], ◌∷◌, map, length, get_or, Some, None, Option, sym, refl, ap, ◌∙◌, inl, inr, arith}
+use Rattle.std.proofs.Common.{◌≡◌, ℕ, true, false, map, Some, None, Option, sym, refl, ap, ◌∙◌, inl, inr, arith}
 use Rattle.std.proofs.lemmas.Bool.{cases_Bool}
 use Rattle.change.specs.declared.span.Span.{Span}
 use Rattle.hunk.specs.declared.source.Source.{Source}
 use Rattle.hunk.specs.declared.row.HunkRow.{HunkRow}
 use Rattle.hunk.specs.Hunks.{Piece, has, rename, with_suspects, passed, span_of}
 use Rattle.hunk.specs.Rows.{is_hunk, read_row, row_piece, row_of}
-use Rattle.pieces.specs.Process.{first_none}
 use Rattle.pieces.specs.Tables.{Renames}
 use Rattle.pieces.proofs.Answering.{row_back}
 
@@ -37,17 +36,3 @@ not-read (Some x) e = cc
 pub read_as : {A : Type 0} (o : Option A) → has o ≡ true → (x : A) × (o ≡ Some x)
 read_as None e = let z : ◌≡◌ {A = ℕ} 0 1 = cc in absurd (omega arith)
 read_as (Some x) e = (x, refl)
-
--- where no row of a table is none, each can be read
-pub known_at : {R : Type 0} (reads : R → Option Piece) (rows : List R) (i j : ℕ) (r : R) → first_none j (map reads rows) ≡ None → i < length rows → r ≡ get_or rows i r → has (reads r) ≡ true
-known_at reads [] i j r n l e = absurd (omega arith)
-known_at reads (x ∷ xs) zero j r n l e = ap (λ v. has (reads v)) e ∙ go (reads x) n
-  where
-    go : (o : Option Piece) → first_none j (o ∷ map reads xs) ≡ None → has o ≡ true
-    go None q = let z : ◌≡◌ {A = ℕ} 0 1 = cc in absurd (omega arith)
-    go (Some h) q = refl
-known_at reads (x ∷ xs) (suc i) j r n l e = known_at reads xs i (j + 1) r (go (reads x) n) (omega arith) e
-  where
-    go : (o : Option Piece) → first_none j (o ∷ map reads xs) ≡ None → first_none (j + 1) (map reads xs) ≡ None
-    go None q = let z : ◌≡◌ {A = ℕ} 0 1 = cc in absurd (omega arith)
-    go (Some h) q = q

@@ -59,12 +59,14 @@ fn pass(before: Counted, end: u32, cut: u32) -> Counted
     }
 }
 
-// How many pieces the row makes.
+// How many pieces the row makes; none if it is no hunk.
 fn count_row<R: TableRow>(row: &R, changes: &[Change], suspect: Source) -> usize
-    requires follows { Follows 0 changes.now }
-    requires known { has (R.TableRow.reads row.now) ≡ true }
+    requires { Follows 0 changes.now }
     ensures { (p : Source) → result ≡ length (pieces suspect p changes.now (hunks_of (R.TableRow.reads row.now ∷ []))) }
 {
+    if !row.is_hunk() {
+        return 0;
+    }
     match row.range_of(suspect) {
         Some(range) => count_pieces(changes, range),
         None => 1,
@@ -78,8 +80,7 @@ pub(crate) fn pieces_fit<R: TableRow>(
     suspect: Source,
     room: usize,
 ) -> bool
-    requires follows { Follows 0 changes.now }
-    requires known { first_none 0 (map R.TableRow.reads rows.now) ≡ None }
+    requires { Follows 0 changes.now }
     ensures { (p : Source) → result ≡ nat_le (length (pieces suspect p changes.now (hunks_of (map R.TableRow.reads rows.now)))) room }
 {
     let mut left = room;

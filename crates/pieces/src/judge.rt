@@ -41,9 +41,11 @@ pub(crate) fn first_no_hunk<R: TableRow>(rows: &[R]) -> Option<usize>
 
 // Whether the row names the suspect past the end of its file.
 fn is_outside<R: TableRow>(row: &R, suspect: Source, total: u32) -> bool
-    requires { has (R.TableRow.reads row.now) ≡ true }
     ensures { result ≡ outside suspect total (R.TableRow.reads row.now) }
 {
+    if !row.is_hunk() {
+        return false;
+    }
     match row.range_of(suspect) {
         Some(range) => range.end > total,
         None => false,
@@ -52,7 +54,6 @@ fn is_outside<R: TableRow>(row: &R, suspect: Source, total: u32) -> bool
 
 // The first such row.
 pub(crate) fn first_outside<R: TableRow>(rows: &[R], suspect: Source, total: u32) -> Option<usize>
-    requires { first_none 0 (map R.TableRow.reads rows.now) ≡ None }
     ensures { result ≡ first_outside suspect total 0 (map R.TableRow.reads rows.now) }
 {
     for i in 0..rows.len() {

@@ -27,15 +27,30 @@ pub trait TableRow: Copy {
 
     // Whether it can be read as a hunk.
     fn is_hunk(&self) -> bool
-        ensures { result ≡ has (reads self.now) };
+        ensures { result ≡ has (reads self.now) }
+    {
+        self.read().is_some()
+    }
 
     // The range of the hunk in the source, if it names it. A hunk has a line.
     fn range_of(&self, source: Source) -> Option<Span>
-        ensures { (h : Piece) → reads self.now ≡ Some h → (result ≡ range_in source h) × (0 < h.size) };
+        ensures { (h : Piece) → reads self.now ≡ Some h → (result ≡ range_in source h) × (0 < h.size) }
+    {
+        self.read()?.get_range(source)
+    }
 
     // The row of the hunk with `to`, at this range, in the place of `from`.
     fn renamed(&self, from: Source, to: Source, range: Span) -> Self
-        ensures { (h : Piece) → reads self.now ≡ Some h → Renames from to range h → (means result ≡ passed from to range.start h) × exact result };
+        ensures { (h : Piece) → reads self.now ≡ Some h → Renames from to range h → (means result ≡ passed from to range.start h) × exact result }
+    {
+        match self.read() {
+            Some(hunk) => match hunk.passed_blame(from, to, range.start) {
+                Some(passed) => Self::written(passed),
+                None => *self,
+            },
+            None => *self,
+        }
+    }
 }
 
 // Writes the hunk into the row behind those in use.

@@ -100,12 +100,14 @@ fn write_row<R: TableRow>(
 ) -> usize
     requires differ { same_source suspect parent ≡ false }
     requires valid { Valid changes.now }
-    requires known { has (R.TableRow.reads row.now) ≡ true }
     requires inside { outside suspect (new_total changes.now) (R.TableRow.reads row.now) ≡ false }
     requires room { length (pieces suspect parent changes.now (hunks_of (R.TableRow.reads row.now ∷ []))) ≤ length out.old }
     ensures count { result ≡ length (pieces suspect parent changes.now (hunks_of (R.TableRow.reads row.now ∷ []))) }
     ensures rows { Filled R.TableRow.means R.TableRow.exact out.old (pieces suspect parent changes.now (hunks_of (R.TableRow.reads row.now ∷ []))) out.new }
 {
+    if !row.is_hunk() {
+        return 0;
+    }
     if let Some(range) = kept_whole(row, changes, suspect, parent) {
         out[0] = row.renamed(suspect, parent, range);
         return 1;
@@ -127,7 +129,6 @@ pub(crate) fn write_all<R: TableRow>(
 ) -> usize
     requires differ { same_source suspect parent ≡ false }
     requires valid { Valid changes.now }
-    requires known { first_none 0 (map R.TableRow.reads rows.now) ≡ None }
     requires inside { first_outside suspect (new_total changes.now) 0 (map R.TableRow.reads rows.now) ≡ None }
     requires room { length (pieces suspect parent changes.now (hunks_of (map R.TableRow.reads rows.now))) ≤ length out.old }
     ensures count { result ≡ length (pieces suspect parent changes.now (hunks_of (map R.TableRow.reads rows.now))) }

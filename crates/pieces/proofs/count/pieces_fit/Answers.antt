@@ -4,14 +4,7 @@ use Rattle.pieces.specs.Pieces.{pieces}
 use Rattle.pieces.specs.Process.{hunks_of}
 use Rattle.pieces.proofs.Along.{at_row, at-end}
 use Rattle.pieces.proofs.Tabling.{pieces_none, count-row-on}
-use Rattle.pieces.proofs.Rowed.{known_at}
 use Rattle.pieces.proofs.count.pieces_fit.Goals as goal
-
-pub count_row-count-requires : goal.count_row-count-requires
-count_row-count-requires g c = record {
-  follows = c.requires.follows;
-  known = known_at g.R.TableRow.reads c.args.rows.now c.loop-i.i 0 c.index-rows-i.result c.requires.known c.loop-i-test.true c.index-rows-i.is;
-}
 
 pub returns-then-count-left : goal.returns-then-count-left
 returns-then-count-left g c p =

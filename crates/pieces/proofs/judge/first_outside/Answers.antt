@@ -1,11 +1,7 @@
 use Rattle.std.proofs.Common.{◌+◌, cond, map, drop, Some, sym, refl, ap, ◌∙◌}
 use Rattle.pieces.specs.Process.{first_outside}
 use Rattle.pieces.proofs.Along.{at_row, at-end}
-use Rattle.pieces.proofs.Rowed.{known_at}
 use Rattle.pieces.proofs.judge.first_outside.Goals as goal
-
-pub is_outside-requires : goal.is_outside-requires
-is_outside-requires g c = known_at g.R.TableRow.reads c.args.rows.now c.loop-i.i 0 c.index-rows-i.result c.requires c.loop-i-test.true c.index-rows-i.is
 
 pub returns-then-is_outside : goal.returns-then-is_outside
 returns-then-is_outside g c =

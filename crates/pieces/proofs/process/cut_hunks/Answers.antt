@@ -19,14 +19,8 @@ returns-in-Some-first_outside g c =
     let e = answer-outside c.args.suspect c.args.parent cs (min c.args.limit (length c.args.out.now)) os c.in-Ok.totals (sym c.in_default.ensures) (sym c.if-is.ensures) j c.in-Some-first_outside.row o in
     subst (λ a. Answered g.R.TableRow.means g.R.TableRow.exact c.args.out.now c.args.out.now a (Err (HunkOutside c.in-Some-first_outside.row))) (sym e) (refl, refl)
 
-pub first_outside-requires : goal.first_outside-requires
-first_outside-requires g c = sym c.in_default.ensures
-
 pub pieces_fit-requires : goal.pieces_fit-requires
-pieces_fit-requires g c = record {
-  follows = (judged-good c.args.changes.now c.in-Ok.totals (sym c.in-Ok.ensures)).0.follows;
-  known = sym c.in_default.ensures;
-}
+pieces_fit-requires g c = (judged-good c.args.changes.now c.in-Ok.totals (sym c.in-Ok.ensures)).0.follows
 
 pub returns-then-not-pieces_fit : goal.returns-then-not-pieces_fit
 returns-then-not-pieces_fit g c =
@@ -50,7 +44,6 @@ write_all-requires g c =
     record {
       differ = sym c.if-is.ensures;
       valid = good.0;
-      known = sym c.in_default.ensures;
       inside = ap (λ t. first_outside c.args.suspect t 0 os) (sym good.1) ∙ sym c.in_default-first_outside.ensures;
       room = omega (arith, l, c.min.ensures);
     }

@@ -6,7 +6,6 @@ use Rattle.pieces.specs.Process.{hunks_of}
 use Rattle.pieces.specs.Tables.{Filled}
 use Rattle.pieces.proofs.Filling.{fill_none}
 use Rattle.pieces.proofs.Along.{at-end}
-use Rattle.pieces.proofs.Rowed.{known_at}
 use Rattle.pieces.proofs.Tabling.{along-room, along-here, along-row, none-outside, pieces_none}
 use Rattle.pieces.proofs.write.write_all.Goals as goal
 
@@ -33,7 +32,6 @@ write_row-used-requires g c =
     record {
       differ = c.requires.differ;
       valid = c.requires.valid;
-      known = known_at reads c.args.rows.now i 0 r c.requires.known c.loop-i-test.true c.index-rows-i.is;
       inside = (none-outside c.args.suspect (new_total cs) i (reads r) os on.within).0;
       room = omega (arith, room, ap length (take_rest c.loop-i.out c.loop-i.used), length-drop c.loop-i.used c.loop-i.out);
     }
