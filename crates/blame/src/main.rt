@@ -4,6 +4,7 @@
 
 use anyhow::anyhow;
 use std::env;
+use std::process::ExitCode;
 
 mod asked;
 mod input;
@@ -41,10 +42,12 @@ fn run(rt: &HostRuntime) -> anyhow::Result<()> {
     }
 }
 
-fn main(rt: HostRuntime) -> anyhow::Result<()> {
-    let result = run(&rt);
-    if let Err(error) = &result {
-        let _ = eprintln!(rt; "blame: {error}");
+fn main(rt: HostRuntime) -> ExitCode {
+    match run(&rt) {
+        Ok(()) => ExitCode::SUCCESS,
+        Err(error) => {
+            let _ = eprintln!(rt; "blame: {error}");
+            ExitCode::FAILURE
+        }
     }
-    result
 }

@@ -4,6 +4,7 @@
 
 use anyhow::anyhow;
 use std::env;
+use std::process::ExitCode;
 
 mod case;
 mod input;
@@ -27,10 +28,12 @@ fn run(rt: &HostRuntime) -> anyhow::Result<()> {
     report::run(rt, text.as_slice())
 }
 
-fn main(rt: HostRuntime) -> anyhow::Result<()> {
-    let result = run(&rt);
-    if let Err(error) = &result {
-        let _ = eprintln!(rt; "compare: {error}");
+fn main(rt: HostRuntime) -> ExitCode {
+    match run(&rt) {
+        Ok(()) => ExitCode::SUCCESS,
+        Err(error) => {
+            let _ = eprintln!(rt; "compare: {error}");
+            ExitCode::FAILURE
+        }
     }
-    result
 }

@@ -68,8 +68,7 @@ fn make_and_run(layout: Layout, rounds: u32) -> u64 {
 }
 
 // The same of a table by its number, 0, 1 or 2; of any other number, 0.
-#[unsafe(no_mangle)]
-pub extern "C" fn process_changes_rounds(table: u32, rounds: u32) -> u64 {
+pub fn process_changes_rounds(table: u32, rounds: u32) -> u64 {
     match table {
         0 => make_and_run(Layout::Whole, rounds),
         1 => make_and_run(Layout::Cut, rounds),
