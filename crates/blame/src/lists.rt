@@ -3,6 +3,7 @@ use change::list::{BadList, Totals, check_list};
 use change::refusal::Refusal;
 use listing::read::{Recorded, read};
 use ranges::blame_ranges::BlameRanges;
+use runs::count::count_lines;
 use runs::fault::Fault;
 use runs::part::part;
 use runs::row::{Origin, Row};
@@ -61,6 +62,12 @@ fn judge(
             if let Ok(totals) = check_list(changes) {
                 summary = print_rows(rt, rows.as_slice(), asked, totals, summary)?;
             }
+            if asked.is_whole_file() {
+                if let Ok(count) = count_lines(changes) {
+                    summary.set = summary.set.saturating_add(u64::from(count.set));
+                    summary.kept = summary.kept.saturating_add(u64::from(count.kept));
+                }
+            }
             summary.judged = summary.judged.saturating_add(1);
         }
         Err(Fault::BadList(bad)) => {
@@ -72,7 +79,8 @@ fn judge(
     Ok(summary)
 }
 
-// The lines asked for, row by row, and the totals.
+// The lines asked for, row by row, and the totals. Where some are asked, they are
+// counted here; those of a whole list are counted apart.
 fn print_rows(
     rt: &HostRuntime,
     rows: &[Row],
@@ -86,7 +94,9 @@ fn print_rows(
         for range in clipped.ranges.iter().take(clipped.count) {
             if let Some(part) = part(*row, *range) {
                 println!(rt; "  {part}")?;
-                summary = counted(summary, part);
+                if !asked.is_whole_file() {
+                    summary = counted(summary, part);
+                }
             }
         }
     }

@@ -35,10 +35,14 @@ fn run(rt: &HostRuntime) -> anyhow::Result<()> {
             lists::run(rt, text.as_slice(), &options.ranges)
         }
         "help" | "--help" | "-h" => {
+            options::at_most_one(args)?;
             print!(rt; "{USAGE}")?;
             Ok(())
         }
-        _ => Err(anyhow!("unknown command; `blame help` lists them")),
+        _ => {
+            options::at_most_one(args)?;
+            Err(anyhow!("unknown command; `blame help` lists them"))
+        }
     }
 }
 

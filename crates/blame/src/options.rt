@@ -4,6 +4,8 @@ use change::refusal::Refusal;
 use ranges::blame_ranges::BlameRanges;
 use std::env::Args;
 
+const TOO_MANY: &str = "too many arguments; `blame help` says what each command takes";
+
 // What stands behind a command: the lines asked for, and the file to read.
 #[derive(Drop)]
 pub struct Options {
@@ -24,12 +26,8 @@ pub fn read(rt: &HostRuntime, args: Args) -> anyhow::Result<Options> {
             lines_next = true;
         } else if let Some(lines) = arg.as_str().strip_prefix("-L") {
             ask(rt, &mut ranges, lines)?;
-        } else if arg.as_str().starts_with("-") {
-            return Err(anyhow!(format!(in rt.alloc();
-                "unknown option {arg}; `blame help` lists them"
-            )?));
         } else if path.is_some() {
-            return Err(anyhow!("too many arguments; `blame help` says what each command takes"));
+            return Err(anyhow!(TOO_MANY));
         } else {
             path = Some(arg);
         }
@@ -38,6 +36,16 @@ pub fn read(rt: &HostRuntime, args: Args) -> anyhow::Result<Options> {
         return Err(anyhow!("-L takes lines, as FIRST,LAST"));
     }
     Ok(Options { ranges, path })
+}
+
+// Refuses more than one argument, behind a command that has no options.
+pub fn at_most_one(args: Args) -> anyhow::Result<()> {
+    let mut args = args;
+    let _argument = args.next();
+    if args.next().is_some() {
+        return Err(anyhow!(TOO_MANY));
+    }
+    Ok(())
 }
 
 // Adds the lines to those asked for, or says why not.
