@@ -2,9 +2,9 @@
 """Brings the names of this repository's definitions and lemmas to snake case, and the facts among
 them to upper camel case. Run once, at the top, right after the kit's own script: `tools/respell.py`.
 
-Turned: in crates/*/specs and crates/*/proofs every word, and in crates/*/src the words of clauses
-and ghost lines, that have the form of a definition in lower camel case (`newTotal`), and the facts
-that were named with dashes. A dash in a lemma's name joins two names and stays. A lemma that would
+Turned: in crates/*/specs and crates/*/proofs every word, and in crates/*/src every word outside
+strings, that has the form of a definition in lower camel case (`newTotal`), which no function of src/
+has, and the facts that were named with dashes. A dash in a lemma's name joins two names and stays. A lemma that would
 then have the name of its definition ends in `_lem`.
 """
 import glob
