@@ -1,5 +1,5 @@
 -- The check of a list, change by change, tells whether the list is valid, and where it first is not.
-use Rattle.std.proofs.Common.{◌≡◌, ℕ, ◌+◌, ◌≤◌, true, List, [], ◌∷◌, ◌++◌, length, take, Some, None, Err, refl, subst, inl, inr, arith}
+use Rattle.std.proofs.Common.{◌≡◌, ℕ, ◌+◌, ◌≤◌, true, List, [], ◌∷◌, ◌++◌, length, take, Some, None, Ok, Err, refl, subst, inl, inr, arith}
 use Rattle.std.proofs.lemmas.Bool.{cases_Bool, both_ways}
 use Rattle.std.proofs.lemmas.Bool.Decides.{nat_tests}
 use Rattle.std.proofs.lemmas.List.{append-nil, append_assoc, length_push, length-append, take_at}
@@ -107,6 +107,9 @@ judge p (c ∷ cs) v =
 
 pub judged : (cs : List Change) → Judged cs (checked cs)
 judged cs = judge [] cs (record { follows = tt; new_fits = omega arith; old_fits = omega arith })
+
+pub valid-of : (cs : List Change) (t : Totals) → checked cs ≡ Ok t → Valid cs
+valid-of cs t e = (subst (Judged cs) e (judged cs)).0
 
 -- the check at a change that may not stand, and at one that may
 pub check-stops : (i : ℕ) (at : Totals) (c : Change) (cs : List Change) → step_of at c ≡ None → check_from i at (c ∷ cs) ≡ Err (record { position = i })

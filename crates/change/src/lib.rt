@@ -13,3 +13,5 @@ pub mod refusal;
 pub mod span;
 #[cfg(test)]
 mod tests;
+pub mod unmade;
+pub mod valid;

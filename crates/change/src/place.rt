@@ -1,9 +1,9 @@
-ghost use Rattle.std.specs.Prelude.{◌≡◌, ℕ, ◌<◌, ◌≤◌, IfOk};
-ghost use Rattle.change.specs.Lists.{Valid};
-ghost use Rattle.change.specs.Places.{kept, walk, kept_in, Placed};
+ghost use Rattle.std.specs.Prelude.{◌≡◌, IfOk};
+ghost use Rattle.change.specs.Places.{walk, kept_in, Placed};
 
 use crate::change::Change;
-use crate::list::{BadList, check_list};
+use crate::list::BadList;
+use crate::valid::ValidList;
 
 // The place in the parent of a line that the commit kept, or the list's first
 // bad position.
@@ -11,18 +11,17 @@ pub fn kept(changes: &[Change], line: u32) -> Result<Option<u32>, BadList>
     ensures is { result ≡ kept_in changes.now line }
     ensures placed { IfOk result (Placed changes.now line) }
 {
-    check_list(changes)?;
-    Ok(place(changes, line))
+    let list = ValidList::new(changes)?;
+    Ok(place(list, line))
 }
 
 // The walk along a valid list with a running offset: the lines added and deleted so far.
-fn place(changes: &[Change], line: u32) -> Option<u32>
-    requires { Valid changes.now }
-    ensures { result ≡ walk 0 0 changes.now line }
+fn place(list: ValidList, line: u32) -> Option<u32>
+    ensures { result ≡ walk 0 0 list.entry.changes.now line }
 {
     let mut added = 0;
     let mut deleted = 0;
-    for change in changes {
+    for change in list.changes {
         match *change {
             Change::Unchanged(range) => {
                 if line < range.end {
@@ -33,7 +32,7 @@ fn place(changes: &[Change], line: u32) -> Option<u32>
                 if line < range.end {
                     return None;
                 }
-                added += range.end - range.start;
+                added += range.len();
                 deleted += count;
             }
             Change::Deleted(_, count) => deleted += count,

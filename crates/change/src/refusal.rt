@@ -1,5 +1,7 @@
 ghost use Rattle.std.specs.Prelude.{◌≡◌, ℕ, List};
 
+use std::fmt;
+
 // What every refusal has: the number and the name under which it is known.
 pub trait Refusal {
     ghost number: { Self → ℕ };
@@ -11,4 +13,16 @@ pub trait Refusal {
 
     fn name(&self) -> &'static str
         ensures { result.now ≡ called self.now };
+}
+
+// A refusal as people are told of it: by its number and its name.
+#[derive(Clone, Copy)]
+pub struct Told<R>(pub R);
+
+impl<R: Refusal> fmt::Display for Told<R> {
+    fn fmt<W: fmt::Write>(&self, f: &mut fmt::Formatter<W>) -> fmt::Result {
+        let number = self.0.number();
+        let name = self.0.name();
+        write!(f, "{number} {name}")
+    }
 }

@@ -3,12 +3,13 @@ use Rattle.std.proofs.lemmas.Bool.{lt-ltb, le-ltb}
 use Rattle.std.proofs.lemmas.List.{at_drop_all}
 use Rattle.change.specs.declared.change.Change.TheVariants.{Unchanged, AddedOrReplaced, Deleted}
 use Rattle.change.specs.Places.{walk}
+use Rattle.change.proofs.Validity.{valid-of}
 use Rattle.change.proofs.Walks.{going, going-here, walk_here, go-unchanged, go-added, go-deleted}
 use Rattle.change.proofs.place.place.Goals as goal
 use Rattle.change.proofs.place.place.Goals.{in-Unchanged+else-line-range, in-AddedOrReplaced+else-line-range-2, in-Deleted}
 
 pub loop-change-init : goal.loop-change-init
-loop-change-init c = (refl, going c.args.changes.now c.args.line c.requires)
+loop-change-init c = (refl, going c.args.list.changes.now c.args.line (valid-of _ _ c.args.list.valid))
 
 pub overflow_add-result : goal.overflow_add-result
 overflow_add-result c =
@@ -27,15 +28,10 @@ returns-then-line-range-2 c =
     let w = walk_here _ c.loop-change.change-index (AddedOrReplaced c.in-AddedOrReplaced.range c.in-AddedOrReplaced.count) _ _ _ _ c.loop-change-test.true c.in-AddedOrReplaced.is c.loop-change.invariant.0 in
     rw e at w
 
-pub overflow_sub-added : goal.overflow_sub-added
-overflow_sub-added c =
-    let g = going-here _ c.loop-change.change-index (AddedOrReplaced c.in-AddedOrReplaced.range c.in-AddedOrReplaced.count) _ _ _ c.loop-change-test.true c.in-AddedOrReplaced.is c.loop-change.invariant.1 in
-    omega (arith, g.follows.0, g.follows.1)
-
 pub overflow_add-added : goal.overflow_add-added
 overflow_add-added c =
     let g = going-here _ c.loop-change.change-index (AddedOrReplaced c.in-AddedOrReplaced.range c.in-AddedOrReplaced.count) _ _ _ c.loop-change-test.true c.in-AddedOrReplaced.is c.loop-change.invariant.1 in
-    omega (arith, g.new_fits, g.fewer, g.follows.0, g.follows.1)
+    omega (arith, g.new_fits, g.fewer, g.follows.0, g.follows.1, c.len-added.ensures)
 
 pub overflow_add-deleted : goal.overflow_add-deleted
 overflow_add-deleted c =
@@ -62,7 +58,7 @@ loop-change-preserved c =
           let g = going-here _ i x _ _ _ c.loop-change-test.true w.in-AddedOrReplaced.is c.loop-change.invariant.1 in
           let s = walk_here _ i x _ _ _ _ c.loop-change-test.true w.in-AddedOrReplaced.is c.loop-change.invariant.0 in
           let e : ltb c.args.line w.in-AddedOrReplaced.range.end ≡ false = le-ltb _ _ w.if-line-range-2.false in
-          rw (w.added-is, w.deleted-is) (rw e at s, go-added _ _ _ _ _ _ w.if-line-range-2.false g)
+          rw (w.added-is, w.deleted-is, w.len-added.ensures) (rw e at s, go-added _ _ _ _ _ _ w.if-line-range-2.false g)
       | in-Deleted w ↦
           let x = Deleted w.in-Deleted.field-0 w.in-Deleted.count in
           let g = going-here _ i x _ _ _ c.loop-change-test.true w.in-Deleted.is c.loop-change.invariant.1 in
@@ -71,4 +67,4 @@ loop-change-preserved c =
     ]
 
 pub returns : goal.returns
-returns c = sym (at_drop_all (λ l. walk c.loop-change.added c.loop-change.deleted l c.args.line) c.args.changes.now c.loop-change.change-index c.loop-change-test.false) ∙ c.loop-change.invariant.0
+returns c = sym (at_drop_all (λ l. walk c.loop-change.added c.loop-change.deleted l c.args.line) c.args.list.changes.now c.loop-change.change-index c.loop-change-test.false) ∙ c.loop-change.invariant.0
