@@ -1,7 +1,7 @@
 -- The check of a row, and the row that is written.
-use Rattle.std.proofs.Common.{◌≡◌, ℕ, ◌+◌, ◌-◌, ◌<◌, ◌≤◌, Bool, true, false, ◌&&◌, List, [], ◌∷◌, ◌++◌, map, length, get_or, take, drop, replicate, sym, refl, ap, ◌∙◌, arith}
+use Rattle.std.proofs.Common.{◌≡◌, ℕ, ◌+◌, ◌-◌, ◌<◌, ◌≤◌, min, Bool, true, false, ◌&&◌, List, [], ◌∷◌, ◌++◌, map, length, get_or, take, drop, replicate, sym, refl, ap, ◌∙◌, arith}
 use Rattle.std.specs.List.{AllByRecursion}
-use Rattle.std.proofs.lemmas.List.{at_drop_more, drop-replicate, length-map, length-take-le, take_rest}
+use Rattle.std.proofs.lemmas.List.{at_drop_more, length-map, length-take-le, take_rest}
 use Rattle.std.proofs.lemmas.Bool.{and_parts, eqb-true, ltb-true, leb-true, not-true, eqb-false}
 use Rattle.change.specs.declared.span.Span.{Span}
 use Rattle.hunk.specs.declared.source.Source.{Source}
@@ -9,8 +9,8 @@ use Rattle.hunk.specs.declared.suspect.Suspect.{Suspect}
 use Rattle.hunk.specs.declared.row.HunkRow.{HunkRow}
 use Rattle.hunk.specs.Hunks.{named}
 use Rattle.hunk.specs.Sound.{blank}
-use Rattle.hunk.specs.Rows.{fits, every_one, differs, different, is_hunk, suspect_of, row_of}
-use Rattle.hunk.proofs.Laid.{laid}
+use Rattle.std.specs.List.{list_all}
+use Rattle.hunk.specs.Rows.{fits, differs, different, is_hunk, suspect_of, row_of}
 use Rattle.hunk.proofs.Owing.{Even, Inside, Other, Distinct, Owed}
 use Rattle.hunk.proofs.Searches.{told-by-start}
 
@@ -21,23 +21,19 @@ stops b x y z p q e = sym (p ∙ ap (λ c. c && y) e) ∙ q
 pub goes : (b x y z : Bool) → x ≡ (b && y) → x ≡ z → b ≡ true → y ≡ z
 goes b x y z p q e = sym (p ∙ ap (λ c. c && y) e) ∙ q
 
-pub every_more : (t : Suspect → Bool) (ss : List Suspect) (i : ℕ) → i < length ss
-    → every_one t (drop i ss) ≡ (t (get_or ss i blank) && every_one t (drop (i + 1) ss))
-every_more t ss i h = at_drop_more (every_one t) ss i blank h
-
 pub different-more : (ss : List Suspect) (i : ℕ) → i < length ss
-    → different (drop i ss) ≡ (every_one (differs (get_or ss i blank).source) (drop (i + 1) ss) && different (drop (i + 1) ss))
+    → different (drop i ss) ≡ (list_all (differs (get_or ss i blank).source) (drop (i + 1) ss) && different (drop (i + 1) ss))
 different-more ss i h = at_drop_more different ss i blank h
 
 -- .. of the others as the code reads them
-pub others-read : (t : Suspect → Bool) (ss : List Suspect) (i : ℕ) (b : Bool) → b ≡ every_one t (take (length ss - i) (drop i ss)) → every_one t (drop i ss) ≡ b
-others-read t ss i b e = sym (e ∙ ap (every_one t) (take_rest ss i))
+pub others-read : (t : Suspect → Bool) (ss : List Suspect) (i : ℕ) (b : Bool) → b ≡ list_all t (take (length ss - i) (drop i ss)) → list_all t (drop i ss) ≡ b
+others-read t ss i b e = sym (e ∙ ap (list_all t) (take_rest ss i))
 
 -- the tests, as what the suspects owe
-every-all : (t : Suspect → Bool) (P : Suspect → Type 0) → ((s : Suspect) → t s ≡ true → P s) → (ss : List Suspect) → every_one t ss ≡ true → AllByRecursion P ss
+every-all : (t : Suspect → Bool) (P : Suspect → Type 0) → ((s : Suspect) → t s ≡ true → P s) → (ss : List Suspect) → list_all t ss ≡ true → AllByRecursion P ss
 every-all t P f [] h = tt
 every-all t P f (s ∷ ss) h =
-    let b = and_parts (t s) (every_one t ss) h in
+    let b = and_parts (t s) (list_all t ss) h in
     (f s b.0, every-all t P f ss b.1)
 
 fits-even : (r : Span) → r.start < r.end → (s : Suspect) → fits (r.end - r.start) s ≡ true → Even r s
@@ -52,10 +48,10 @@ differs-other c s h = eqb-false s.source.commit c.commit (not-true _ h)
 all-distinct : (ss : List Suspect) → different ss ≡ true → Distinct ss
 all-distinct [] h = tt
 all-distinct (s ∷ ss) h =
-    let b = and_parts (every_one (differs s.source) ss) (different ss) h in
+    let b = and_parts (list_all (differs s.source) ss) (different ss) h in
     (every-all (differs s.source) (Other s.source) (differs-other s.source) ss b.0, all-distinct ss b.1)
 
-pub checked-owed : (r : Span) (ss : List Suspect) → r.start < r.end → every_one (fits (r.end - r.start)) ss ≡ true → different ss ≡ true → Owed r ss
+pub checked-owed : (r : Span) (ss : List Suspect) → r.start < r.end → list_all (fits (r.end - r.start)) ss ≡ true → different ss ≡ true → Owed r ss
 checked-owed r ss l f d = record {
   level = every-all (fits (r.end - r.start)) (Even r) (fits-even r l) ss f;
   within = every-all (fits (r.end - r.start)) Inside (fits-inside (r.end - r.start)) ss f;
@@ -101,14 +97,15 @@ same_row r r' l l' n n' p q e =
     ∙ ap (λ x. record { range_in_blamed_file = r'; suspects = l'; count = x }) e
 
 pub row-of : (r : Span) (ss : List Suspect) (n : ℕ) → n ≤ length ss → r.start < r.end → Owed r (take n ss)
-    → (xs : List Suspect) → xs ≡ laid ss (replicate 8 blank) n
+    → (xs : List Suspect) → n ≤ 8 → xs ≡ take (min n 8) ss ++ replicate (8 - min n 8) blank
     → ◌≡◌ {A = HunkRow} (record { range_in_blamed_file = r; suspects = xs; count = n })
     (row_of (record { asked = r.start; size = r.end - r.start; suspects = map named (take n ss) }))
-row-of r ss n h l o xs e =
+row-of r ss n h l o xs f e =
+    let m : min n 8 ≡ n = omega arith in
     let long : length (map named (take n ss)) ≡ n = length-map (take n ss) named ∙ length-take-le n ss h in
     same_row _ _ _ _ _ _
     (told-by-start r r l (omega arith))
-    (e ∙ ap (λ x. take n ss ++ x) (drop-replicate n 8 blank)
+    (e ∙ ap (λ x. take x ss ++ replicate (8 - x) blank) m
     ∙ ap (λ x. x ++ replicate (8 - n) blank) (sym (again r (take n ss) l o.level))
     ∙ ap (λ x. map (suspect_of (r.end - r.start)) (map named (take n ss)) ++ replicate (8 - x) blank) (sym long))
     (sym long)

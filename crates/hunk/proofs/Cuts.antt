@@ -26,11 +26,6 @@ mapped_at f xs ys n hn e i h =
     let l : i < length (take n ys) = rw (length-take-le n ys hn) h in
     sym (get_or-take n xs i blank h) ∙ ap (λ l. get_or l i blank) e ∙ get_or-map f (take n ys) i blank blank l ∙ ap f (get_or-take n ys i blank h)
 
--- .. of all that the loop has come to
-pub mapped-all : (f : Suspect → Suspect) (xs ys : List Suspect) (i n : ℕ) → i ≡ n
-    → take i xs ≡ map f (take i ys) → take n xs ≡ map f (take n ys)
-mapped-all f xs ys i n p e = subst (λ m. take m xs ≡ map f (take m ys)) p e
-
 -- what the halves owe: xs are the first n of ss, each cut
 pub front-level : (r : Span) (xs ss : List Suspect) (n k : ℕ) → ((i : ℕ) → i < n → get_or xs i blank ≡ fronts k (get_or ss i blank))
     → Level (span_of k r.start) xs n

@@ -1,7 +1,6 @@
 pub mod Searches
 pub mod Cuts
 pub mod Owing
-pub mod Laid
 pub mod Passes
 pub mod Adds
 pub mod Checks

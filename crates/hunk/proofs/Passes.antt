@@ -11,32 +11,11 @@ use Rattle.hunk.specs.declared.suspect.Suspect.{Suspect}
 use Rattle.hunk.specs.Hunks.{Named, named, same_source, start_in, has, isnt, rename}
 use Rattle.hunk.specs.Rows.{differs}
 use Rattle.hunk.specs.Sound.{blank}
-use Rattle.hunk.proofs.Laid.{laid, laid-set, laid_kept}
 use Rattle.hunk.proofs.Owing.{Even, Inside, Other, Distinct, Owed}
 
 -- a suspect that names c is n now
 abbrev pub swap : Source → Suspect → Suspect → Suspect
 swap c n s = cond (same_source s.source c) n s
-
--- one step of the renaming: the suspect at i names c, or it does not
-module _ (c : Source) (n : Suspect) (ss xs ys : List Suspect) (i : ℕ) (h : i < length ss) where
-  swap_at : get_or (map (swap c n) ss) i blank ≡ swap c n (get_or ss i blank)
-  swap_at = get_or-map (swap c n) ss i blank blank h
-
-  long : i < length (map (swap c n) ss)
-  long = rw (length-map ss (swap c n)) h
-
-  pub swap-here : true ≡ same_source (get_or ss i blank).source c → ys ≡ set xs i n
-      → xs ≡ laid (map (swap c n) ss) ss i → ys ≡ laid (map (swap c n) ss) ss (i + 1)
-  swap-here t p q =
-      p ∙ ap (λ l. set l i n) q
-      ∙ ap (λ x. set (laid (map (swap c n) ss) ss i) i x) (sym (swap_at ∙ cond-true (same_source (get_or ss i blank).source c) n (get_or ss i blank) (sym t)))
-      ∙ laid-set (map (swap c n) ss) ss i long h
-
-  pub swap-past : false ≡ same_source (get_or ss i blank).source c → ys ≡ xs
-      → xs ≡ laid (map (swap c n) ss) ss i → ys ≡ laid (map (swap c n) ss) ss (i + 1)
-  swap-past t p q =
-      p ∙ q ∙ laid_kept (map (swap c n) ss) ss i long h (swap_at ∙ cond-false (same_source (get_or ss i blank).source c) n (get_or ss i blank) (sym t))
 
 one-other : (t u : Bool) (n s o : Suspect) → (t ≡ true → u ≡ true → ⊥) → Other n.source s → Other n.source o → Other s.source o
     → Other (cond t n s).source (cond u n o)

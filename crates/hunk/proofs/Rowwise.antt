@@ -1,5 +1,5 @@
 -- A row that is a hunk, read and changed where it lies.
-use Rattle.std.proofs.Common.{◌≡◌, ◌-◌, ◌<◌, ◌≤◌, min, true, List, [], ◌∷◌, ◌++◌, map, length, take, replicate, Some, sym, refl, ap, ◌∙◌, inl, inr, arith}
+use Rattle.std.proofs.Common.{◌≡◌, ◌+◌, ◌-◌, ◌<◌, ◌≤◌, min, true, List, [], ◌∷◌, ◌++◌, map, length, take, replicate, Some, Option, IfSome, sym, refl, ap, ◌∙◌, inl, inr, arith}
 use Rattle.std.specs.List.{AllByRecursion}
 use Rattle.std.proofs.lemmas.List.{length-map, length-take-le}
 use Rattle.std.proofs.lemmas.Bool.{cases_Bool}
@@ -11,18 +11,30 @@ use Rattle.hunk.specs.declared.row.HunkRow.{HunkRow}
 use Rattle.hunk.specs.Hunks.{same_source, start_in, range_in, span_of, named, rename, with_suspects}
 use Rattle.hunk.specs.Rows.{is_hunk, in_use, range_at, rename_at, renamed_row, row_piece, row_of, suspect_of}
 use Rattle.hunk.specs.Sound.{blank}
-use Rattle.hunk.proofs.Owing.{Even}
+use Rattle.hunk.proofs.Owing.{Even, Inside}
 use Rattle.hunk.proofs.Searches.{told-by-start}
 use Rattle.hunk.proofs.Checks.{right, same_row}
 
+abbrev pub InRange : Span → Option Span → Type 0
+InRange r x = IfSome x (λ s. (s.start + (r.end - r.start) ≡ s.end) × (s.end ≤ 16777215))
+
 module _ (r : Span) (l : r.start < r.end) where
   -- the range of a suspect is told by its start
-  range-told : (c : Source) (ss : List Suspect) → AllByRecursion (Even r) ss → range_at c ss ≡ option_map (span_of (r.end - r.start)) (start_in c (map named ss))
+  pub range-told : (c : Source) (ss : List Suspect) → AllByRecursion (Even r) ss → range_at c ss ≡ option_map (span_of (r.end - r.start)) (start_in c (map named ss))
   range-told c [] a = refl
   range-told c (s ∷ ss) a =
       elim (cases_Bool (same_source s.source c)) [
         | inl b ↦ rw b (ap Some (told-by-start s.range r l a.0))
         | inr b ↦ rw b (range-told c ss a.1)
+      ]
+
+  -- .. and is as long as r, within the file limit
+  pub range-within : (c : Source) (ss : List Suspect) → AllByRecursion (Even r) ss → AllByRecursion Inside ss → InRange r (range_at c ss)
+  range-within c [] a b = tt
+  range-within c (s ∷ ss) a b =
+      elim (cases_Bool (same_source s.source c)) [
+        | inl e ↦ rw e (omega (arith, a.0), b.0)
+        | inr e ↦ rw e (range-within c ss a.1 b.1)
       ]
 
   renames-told : (c p : Source) (x : Span) → x ≡ span_of (r.end - r.start) x.start → (ss : List Suspect) → AllByRecursion (Even r) ss

@@ -1,5 +1,6 @@
 -- Rows of a table, the hunks that they are, and the row that is written of a hunk. Assumes nothing.
 use Rattle.std.specs.Prelude.{ℕ, ◌+◌, ◌-◌, min, Bool, true, cond, not, ◌&&◌, List, [], ◌∷◌, ◌++◌, map, length, take, replicate, Some, None, Ok, Err, Option, Result, ◌==◌, nat_le, nat_lt}
+use Rattle.std.specs.List.{list_all}
 use Rattle.change.specs.declared.span.Span.{Span}
 use Rattle.change.specs.Lists.{limit}
 use Rattle.hunk.specs.declared.source.Source.{Source}
@@ -34,16 +35,12 @@ is_of size r = r.end == r.start + size && nat_le r.end limit
 abbrev pub fits : ℕ → Suspect → Bool
 fits size s = is_of size s.range
 
-abbrev pub every_one : (Suspect → Bool) → List Suspect → Bool
-every_one t [] = true
-every_one t (s ∷ ss) = t s && every_one t ss
-
 abbrev pub differs : Source → Suspect → Bool
 differs c s = not (same_source s.source c)
 
 abbrev pub different : List Suspect → Bool
 different [] = true
-different (s ∷ ss) = every_one (differs s.source) ss && different ss
+different (s ∷ ss) = list_all (differs s.source) ss && different ss
 
 -- a range of a line or more, within the file limit
 abbrev pub sound : Span → Bool
@@ -53,7 +50,7 @@ sound r = nat_lt r.start r.end && nat_le r.end limit
 abbrev pub is_hunk : HunkRow → Bool
 is_hunk r =
     sound r.range_in_blamed_file && nat_lt 0 r.count && nat_le r.count 8
-    && every_one (fits (r.range_in_blamed_file.end - r.range_in_blamed_file.start)) (take r.count r.suspects)
+    && list_all (fits (r.range_in_blamed_file.end - r.range_in_blamed_file.start)) (take r.count r.suspects)
     && different (take r.count r.suspects)
 
 -- the suspects of a row that are in use, at most eight

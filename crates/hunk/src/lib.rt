@@ -14,3 +14,4 @@ pub mod rows;
 pub mod source;
 pub mod split;
 pub mod suspect;
+mod suspects;

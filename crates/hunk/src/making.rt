@@ -31,7 +31,7 @@ impl UnblamedHunk {
         ensures { told_of result ≡ added_of source start (piece_of self) }
     {
         let range = self.range_in_blamed_file;
-        let size = range.end - range.start;
+        let size = range.len();
         if self.has_suspect(source) {
             return Err(SuspectFault::SameCommit);
         }

@@ -5,7 +5,7 @@ ghost use Rattle.hunk.specs.Rows.{piece_of, passed_of};
 
 use crate::hunk::UnblamedHunk;
 use crate::source::Source;
-use crate::suspect::Suspect;
+use crate::suspects::rename;
 use change::list::FILE_LIMIT;
 use change::span::Span;
 
@@ -15,19 +15,11 @@ fn renamed(hunk: UnblamedHunk, from: Source, to: Source, start: u32) -> Unblamed
     requires fits { start + (piece_of hunk).size ≤ 16777215 }
     ensures { piece_of result ≡ with_suspects (piece_of hunk) (map (rename from to start) (piece_of hunk).suspects) }
 {
-    let range = hunk.range_in_blamed_file;
-    let end = start + (range.end - range.start);
+    let end = start + hunk.range_in_blamed_file.len();
     let mut suspects = hunk.suspects;
-    for i in 0..hunk.count {
-        if hunk.suspects[i].source.is(from) {
-            suspects[i] = Suspect {
-                source: to,
-                range: Span { start, end },
-            };
-        }
-    }
+    rename(&mut suspects[..hunk.count], from, to, Span { start, end });
     UnblamedHunk {
-        range_in_blamed_file: range,
+        range_in_blamed_file: hunk.range_in_blamed_file,
         suspects,
         count: hunk.count,
     }
@@ -38,17 +30,18 @@ fn dropped(hunk: UnblamedHunk, from: Source) -> UnblamedHunk
     requires { 0 < length (without from (piece_of hunk)).suspects }
     ensures { piece_of result ≡ without from (piece_of hunk) }
 {
-    let mut suspects = hunk.suspects;
+    let suspects = hunk.suspects;
+    let mut left = suspects;
     let mut count = 0;
-    for i in 0..hunk.count {
-        if !hunk.suspects[i].source.is(from) {
-            suspects[count] = hunk.suspects[i];
+    for suspect in &suspects[..hunk.count] {
+        if suspect.source != from {
+            left[count] = *suspect;
             count += 1;
         }
     }
     UnblamedHunk {
         range_in_blamed_file: hunk.range_in_blamed_file,
-        suspects,
+        suspects: left,
         count,
     }
 }
@@ -60,8 +53,8 @@ impl UnblamedHunk {
     pub fn passed_blame(self, from: Source, to: Source, start: u32) -> Option<UnblamedHunk>
         ensures { option_map piece_of result ≡ passed_of from to start (piece_of self) }
     {
-        let size = self.range_in_blamed_file.end - self.range_in_blamed_file.start;
-        if !self.has_suspect(from) || from.is(to) || start > FILE_LIMIT - size {
+        let size = self.range_in_blamed_file.len();
+        if !self.has_suspect(from) || from == to || start > FILE_LIMIT - size {
             return None;
         }
         if self.has_suspect(to) {

@@ -4,6 +4,7 @@ ghost use Rattle.hunk.specs.Rows.{piece_of};
 
 use crate::hunk::UnblamedHunk;
 use crate::source::Source;
+use crate::suspects::range_at;
 use change::span::Span;
 
 impl UnblamedHunk {
@@ -12,12 +13,7 @@ impl UnblamedHunk {
         ensures is { result ≡ range_in source (piece_of self.now) }
         ensures within { IfSome result (λ s. (s.start + (piece_of self.now).size ≡ s.end) × (s.end ≤ 16777215)) }
     {
-        for i in 0..self.count {
-            if self.suspects[i].source.is(source) {
-                return Some(self.suspects[i].range);
-            }
-        }
-        None
+        range_at(&self.suspects[..self.count], source)
     }
 
     // Whether the hunk names it.

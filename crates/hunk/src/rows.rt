@@ -1,77 +1,50 @@
 ghost use Rattle.std.specs.Prelude.{◌≡◌, true, map};
 ghost use Rattle.std.specs.Option.{option_map};
 ghost use Rattle.hunk.specs.Hunks.{span_of, rename, with_suspects};
-ghost use Rattle.hunk.specs.Rows.{piece_of, fits, every_one, different, differs, is_of, is_hunk, row_piece, in_use, range_at, renamed_row, read_row, row_of};
+ghost use Rattle.std.specs.List.{list_all};
+ghost use Rattle.hunk.specs.Rows.{piece_of, fits, different, differs, is_of, is_hunk, row_piece, in_use, range_at, renamed_row, read_row, row_of};
 
 use crate::hunk::UnblamedHunk;
 use crate::row::HunkRow;
 use crate::source::Source;
 use crate::suspect::Suspect;
+use crate::suspects::{front, range_at, rename};
 use change::list::FILE_LIMIT;
 use change::span::Span;
-
-// What stands behind the suspects of a row that is written.
-const BLANK: Suspect = Suspect {
-    source: Source { commit: 0 },
-    range: Span { start: 0, end: 0 },
-};
 
 // Whether the range has this many lines, within the file limit.
 fn has_lines(range: Span, size: u32) -> bool
     ensures { result ≡ is_of size range }
 {
-    range.end <= FILE_LIMIT && range.start <= range.end && range.end - range.start == size
+    range.end <= FILE_LIMIT && range.start <= range.end && range.len() == size
 }
 
 // Whether each suspect's range is such a one.
 fn all_fit(suspects: &[Suspect], size: u32) -> bool
-    ensures { result ≡ every_one (fits size) suspects.now }
+    ensures { result ≡ list_all (fits size) suspects.now }
 {
-    for suspect in suspects {
-        if !has_lines(suspect.range, size) {
-            return false;
-        }
-    }
-    true
+    suspects
+        .iter()
+        .all(|suspect| has_lines(suspect.range, size))
 }
 
 // Whether none of the suspects names it.
 fn none_names(suspects: &[Suspect], source: Source) -> bool
-    ensures { result ≡ every_one (differs source) suspects.now }
+    ensures { result ≡ list_all (differs source) suspects.now }
 {
-    for suspect in suspects {
-        if suspect.source.is(source) {
-            return false;
-        }
-    }
-    true
+    suspects.iter().all(|suspect| suspect.source != source)
 }
 
 // Whether no two suspects name the same.
 fn all_differ(suspects: &[Suspect]) -> bool
     ensures { result ≡ different suspects.now }
 {
-    for i in 0..suspects.len() {
-        if !none_names(&suspects[i + 1..], suspects[i].source) {
+    for (i, suspect) in suspects.iter().enumerate() {
+        if !none_names(&suspects[i + 1..], suspect.source) {
             return false;
         }
     }
     true
-}
-
-// The row as a hunk, if it is one.
-fn checked(row: HunkRow) -> Option<UnblamedHunk>
-    ensures { option_map piece_of result ≡ read_row row }
-{
-    if !row.is_hunk() {
-        return None;
-    }
-    let suspects = row.suspects;
-    Some(UnblamedHunk {
-        range_in_blamed_file: row.range_in_blamed_file,
-        suspects,
-        count: row.count,
-    })
 }
 
 impl HunkRow {
@@ -85,26 +58,28 @@ impl HunkRow {
             return false;
         }
         let used = &self.suspects[..count];
-        all_fit(used, range.end - range.start) && all_differ(used)
+        all_fit(used, range.len()) && all_differ(used)
     }
 
     // The hunk that the row is, if it is one.
     pub fn hunk(&self) -> Option<UnblamedHunk>
         ensures { option_map piece_of result ≡ read_row self.now }
     {
-        checked(*self)
+        if !self.is_hunk() {
+            return None;
+        }
+        Some(UnblamedHunk {
+            range_in_blamed_file: self.range_in_blamed_file,
+            suspects: self.suspects,
+            count: self.count,
+        })
     }
 
     // The range of the first suspect in use that names the source, right or wrong.
     pub fn range_of(&self, source: Source) -> Option<Span>
         ensures { result ≡ range_at source (in_use self.now) }
     {
-        for i in 0..self.count.min(8) {
-            if self.suspects[i].source.is(source) {
-                return Some(self.suspects[i].range);
-            }
-        }
-        None
+        range_at(&self.suspects[..self.count.min(8)], source)
     }
 
     // The row with `to`, at this range, in the place of `from`, and zeros behind
@@ -114,36 +89,21 @@ impl HunkRow {
         ensures hunk { is_hunk self ≡ true → range ≡ span_of (row_piece self).size range.start
             → result ≡ row_of (with_suspects (row_piece self) (map (rename from to range.start) (row_piece self).suspects)) }
     {
-        let mut suspects = [BLANK; 8];
-        for i in 0..self.count.min(8) {
-            let suspect = self.suspects[i];
-            suspects[i] = if suspect.source.is(from) {
-                Suspect { range, source: to }
-            } else {
-                suspect
-            };
-        }
-        HunkRow {
-            range_in_blamed_file: self.range_in_blamed_file,
-            suspects,
-            count: self.count,
-        }
+        let mut suspects = front(self.suspects, self.count);
+        rename(&mut suspects[..self.count.min(8)], from, to, range);
+        HunkRow { suspects, ..self }
     }
 }
 
-impl UnblamedHunk {
-    // The row that is written of the hunk: zeros stand behind its suspects.
-    pub fn row(self) -> HunkRow
-        ensures { result ≡ row_of (piece_of self) }
-    {
-        let mut suspects = [BLANK; 8];
-        for i in 0..self.count {
-            suspects[i] = self.suspects[i];
-        }
+// The row that is written of a hunk: zeros stand behind its suspects.
+impl From<UnblamedHunk> for HunkRow {
+    ghost from_gives = { λ h r. r ≡ row_of (piece_of h) };
+
+    fn from(hunk: UnblamedHunk) -> HunkRow {
         HunkRow {
-            range_in_blamed_file: self.range_in_blamed_file,
-            suspects,
-            count: self.count,
+            range_in_blamed_file: hunk.range_in_blamed_file,
+            suspects: front(hunk.suspects, hunk.count),
+            count: hunk.count,
         }
     }
 }

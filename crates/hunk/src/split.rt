@@ -7,13 +7,7 @@ use crate::hunk::UnblamedHunk;
 use crate::source::Source;
 use crate::suspect::Suspect;
 use change::span::Span;
-
-// A hunk left whole, or cut in two.
-#[derive(Clone, Copy)]
-pub enum Either {
-    Left(UnblamedHunk),
-    Right(UnblamedHunk, UnblamedHunk),
-}
+use either::Either;
 
 // The first k lines of the hunk, and the lines behind them.
 fn halves(hunk: UnblamedHunk, k: u32) -> (UnblamedHunk, UnblamedHunk)
@@ -21,59 +15,56 @@ fn halves(hunk: UnblamedHunk, k: u32) -> (UnblamedHunk, UnblamedHunk)
     ensures front { piece_of result.0 ≡ front k (piece_of hunk) }
     ensures back { piece_of result.1 ≡ back k (piece_of hunk) }
 {
-    let range = hunk.range_in_blamed_file;
-    let count = hunk.count;
-    let mut left = hunk.suspects;
-    let mut right = hunk.suspects;
-    for i in 0..count {
-        let s = hunk.suspects[i];
-        let mid = s.range.start + k;
-        left[i] = Suspect {
-            source: s.source,
+    let Span { start, end } = hunk.range_in_blamed_file;
+    let mid = start + k;
+    let suspects = hunk.suspects;
+    let mut before = suspects;
+    let mut after = suspects;
+    for (i, suspect) in suspects[..hunk.count].iter().enumerate() {
+        let mid = suspect.range.start + k;
+        before[i] = Suspect {
             range: Span {
-                start: s.range.start,
                 end: mid,
+                ..suspect.range
             },
+            ..*suspect
         };
-        right[i] = Suspect {
-            source: s.source,
+        after[i] = Suspect {
             range: Span {
                 start: mid,
-                end: s.range.end,
+                ..suspect.range
             },
+            ..*suspect
         };
     }
-    let mid = range.start + k;
     let before = UnblamedHunk {
-        range_in_blamed_file: Span {
-            start: range.start,
-            end: mid,
-        },
-        suspects: left,
-        count,
+        range_in_blamed_file: Span { start, end: mid },
+        suspects: before,
+        count: hunk.count,
     };
     let after = UnblamedHunk {
-        range_in_blamed_file: Span {
-            start: mid,
-            end: range.end,
-        },
-        suspects: right,
-        count,
+        range_in_blamed_file: Span { start: mid, end },
+        suspects: after,
+        count: hunk.count,
     };
     (before, after)
 }
 
 impl UnblamedHunk {
-    // The hunk cut before this line of what the suspect names, if that is strictly inside.
-    pub fn split_at(self, source: Source, line: u32) -> Either
+    // The hunk left whole, or cut in two before this line of what the suspect names,
+    // if that is strictly inside.
+    pub fn split_at(
+        self,
+        source: Source,
+        line: u32,
+    ) -> Either<UnblamedHunk, (UnblamedHunk, UnblamedHunk)>
         ensures { parts_of result ≡ cut source line (piece_of self) }
     {
         let Some(range) = self.get_range(source) else {
             return Either::Left(self);
         };
         if range.start < line && line < range.end {
-            let (before, after) = halves(self, line - range.start);
-            Either::Right(before, after)
+            Either::Right(halves(self, line - range.start))
         } else {
             Either::Left(self)
         }

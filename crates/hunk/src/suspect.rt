@@ -1,9 +1,25 @@
+ghost use Rattle.std.specs.Prelude.{◌≡◌};
+ghost use Rattle.hunk.specs.Rows.{rename_at};
+
 use crate::source::Source;
 use change::span::Span;
 
 // A commit that may have set a hunk's lines, and where they stand in it.
-#[derive(Clone, Copy, Debug, PartialEq, Eq)]
+#[derive(Clone, Copy, Debug, PartialEq, Eq, Default)]
 pub struct Suspect {
     pub source: Source,
     pub range: Span,
+}
+
+impl Suspect {
+    // `to` with this range, if it names `from`.
+    pub(crate) fn renamed(self, from: Source, to: Source, range: Span) -> Suspect
+        ensures { result ≡ rename_at from to range self }
+    {
+        if self.source == from {
+            Suspect { source: to, range }
+        } else {
+            self
+        }
+    }
 }

@@ -1,10 +1,10 @@
 use change::refusal::Refusal;
 use change::span::Span;
+use either::Either;
 use hunk::fault::{EmptyRange, SuspectFault};
 use hunk::hunk::UnblamedHunk;
 use hunk::row::HunkRow;
 use hunk::source::Source;
-use hunk::split::Either;
 use hunk::suspect::Suspect;
 use std::test::Fail;
 
@@ -111,7 +111,7 @@ fn zeros_stand_behind_the_suspects(rt: HostRuntime) -> Result<(), Fail> {
     let Some(hunk) = row(10, 13, first, suspect(1, 9, 3), 1).hunk() else {
         return Err(Fail::new("no hunk"));
     };
-    assert_eq!(rt; hunk.row(), row(10, 13, first, suspect(0, 0, 0), 1));
+    assert_eq!(rt; HunkRow::from(hunk), row(10, 13, first, suspect(0, 0, 0), 1));
     Ok(())
 }
 
@@ -121,15 +121,15 @@ fn hunks_are_split_inside(rt: HostRuntime) -> Result<(), Fail> {
     assert!(rt; matches!(hunk.split_at(source(2), 5), Either::Left(_)));
     assert!(rt; matches!(hunk.split_at(source(2), 8), Either::Left(_)));
     assert!(rt; matches!(hunk.split_at(source(3), 6), Either::Left(_)));
-    let Either::Right(before, after) = hunk.split_at(source(2), 6) else {
+    let Either::Right((before, after)) = hunk.split_at(source(2), 6) else {
         return Err(Fail::new("not split"));
     };
     assert_eq!(rt;
-        before.row(),
+        HunkRow::from(before),
         row(10, 11, suspect(1, 10, 11), suspect(2, 5, 6), 2)
     );
     assert_eq!(rt;
-        after.row(),
+        HunkRow::from(after),
         row(11, 13, suspect(1, 11, 13), suspect(2, 6, 8), 2)
     );
     Ok(())
@@ -142,14 +142,14 @@ fn blame_is_passed(rt: HostRuntime) -> Result<(), Fail> {
         return Err(Fail::new("not passed"));
     };
     assert_eq!(rt;
-        renamed.row(),
+        HunkRow::from(renamed),
         row(10, 13, suspect(3, 7, 10), suspect(2, 5, 8), 2)
     );
     let Some(dropped) = hunk.passed_blame(source(1), source(2), 7) else {
         return Err(Fail::new("not passed"));
     };
     assert_eq!(rt;
-        dropped.row(),
+        HunkRow::from(dropped),
         row(10, 13, suspect(2, 5, 8), suspect(0, 0, 0), 1)
     );
     assert!(rt; hunk.passed_blame(source(3), source(4), 7).is_none());

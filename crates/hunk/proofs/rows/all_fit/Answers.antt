@@ -1,18 +1,8 @@
-use Rattle.std.proofs.Common.{sym, ◌∙◌, arith}
-use Rattle.std.proofs.lemmas.List.{at_drop_all}
-use Rattle.hunk.specs.Rows.{every_one, fits}
-use Rattle.hunk.proofs.Checks.{every_more, stops, goes}
+use Rattle.std.proofs.Common.{rules, tests}
+use Rattle.std.proofs.lemmas.Iterator.{YieldsList-from_slice}
+use Rattle.std.proofs.lemmas.Iterator.Search.{all_from_yields_List}
+use Rattle.hunk.specs.Rows.{fits}
 use Rattle.hunk.proofs.rows.all_fit.Goals as goal
 
-pub returns-then-not-has_lines : goal.returns-then-not-has_lines
-returns-then-not-has_lines c =
-    stops _ _ _ _ (every_more (fits c.args.size) c.args.suspects.now c.loop-suspect.suspect-index c.loop-suspect-test.true)
-    c.loop-suspect.invariant (sym c.if-not-has_lines.ensures)
-
-pub loop-suspect-preserved : goal.loop-suspect-preserved
-loop-suspect-preserved c =
-    goes _ _ _ _ (every_more (fits c.args.size) c.args.suspects.now c.loop-suspect.suspect-index c.loop-suspect-test.true)
-    c.loop-suspect.invariant (sym c.if-not-has_lines.ensures)
-
 pub returns : goal.returns
-returns c = sym (at_drop_all (every_one (fits c.args.size)) c.args.suspects.now c.loop-suspect.suspect-index (omega arith)) ∙ c.loop-suspect.invariant
+returns c = all_from_yields_List (fits c.args.size) _ _ _ c.all.ensures.ran (YieldsList-from_slice c.args.suspects.now cc) (λ x b q k. search (rules, tests))

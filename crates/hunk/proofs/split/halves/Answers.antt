@@ -1,15 +1,35 @@
-use Rattle.std.proofs.Common.{◌≡◌, ℕ, ◌<◌, ◌≤◌, map, length, get_or, refl, ap, ◌∙◌, arith}
-use Rattle.std.proofs.lemmas.List.{length-set}
+use Rattle.std.proofs.Common.{◌≡◌, ℕ, ◌<◌, ◌≤◌, List, map, length, get_or, take, refl, ap, ◌∙◌, arith}
+use Rattle.std.proofs.lemmas.List.{get_or-take, length-set, length-take-le, take_all}
+use Rattle.hunk.specs.declared.suspect.Suspect.{Suspect}
+use Rattle.hunk.specs.declared.hunk.UnblamedHunk.{UnblamedHunk}
 use Rattle.hunk.specs.Hunks.{named}
 use Rattle.hunk.specs.Sound.{blank}
-use Rattle.hunk.proofs.Cuts.{fronts, backs, mapped-more, mapped_at, mapped-all, named-fronts, named-backs, same-piece, front-level, front-within, back_level, back-within, same-apart}
+use Rattle.hunk.proofs.Cuts.{fronts, backs, mapped-more, mapped_at, named-fronts, named-backs, same-piece, front-level, front-within, back_level, back-within, same-apart}
 use Rattle.hunk.proofs.split.halves.Goals as goal
+
+-- the suspects in use
+abbrev used : UnblamedHunk → List Suspect
+used h = take h.count h.suspects
+
+-- what the loop leaves: each of them mapped, and all of them
+each : (f : Suspect → Suspect) (h : UnblamedHunk) (xs : List Suspect) (n : ℕ) → h.count ≤ length h.suspects → n ≡ length (used h) → take n xs ≡ map f (take n (used h))
+    → (i : ℕ) → i < h.count → get_or xs i blank ≡ f (get_or h.suspects i blank)
+each f h xs n l p e i b =
+    let few = length-take-le h.count h.suspects l in
+    mapped_at f xs (used h) n (omega arith) e i (omega (arith, few)) ∙ ap f (get_or-take h.count h.suspects i blank b)
+
+every : (f : Suspect → Suspect) (h : UnblamedHunk) (xs : List Suspect) (n : ℕ) → h.count ≤ length h.suspects → n ≡ length (used h) → take n xs ≡ map f (take n (used h))
+    → take h.count xs ≡ map f (used h)
+every f h xs n l p e =
+    let q : h.count ≡ n = omega (arith, p, length-take-le h.count h.suspects l) in
+    ap (λ m. take m xs) q ∙ e ∙ ap (map f) (take_all n (used h) (omega arith))
 
 pub loop-i-preserved : goal.loop-i-preserved
 loop-i-preserved c =
-    let hl : c.loop-i.i < length c.loop-i.left = omega arith in
-    let hr : c.loop-i.i < length c.loop-i.right = omega arith in
-    let hs : c.loop-i.i < length c.args.hunk.suspects = omega arith in (
+    let few = length-take-le c.args.hunk.count c.args.hunk.suspects (omega arith) in
+    let hl : c.loop-i.i < length c.loop-i.before = omega (arith, few) in
+    let hr : c.loop-i.i < length c.loop-i.after = omega (arith, few) in
+    let hs = c.loop-i-test.true in (
       mapped-more (fronts c.args.k) _ _ _ hl hs c.loop-i.invariant.0,
       mapped-more (backs c.args.k) _ _ _ hr hs c.loop-i.invariant.1,
       simp length-set c.loop-i.invariant.2,
@@ -19,9 +39,7 @@ loop-i-preserved c =
 pub invariant_of-before : goal.invariant_of-before
 invariant_of-before c =
     let h = c.args.hunk in
-    let n : c.loop-i.i ≤ length h.suspects = omega arith in
-    let at : (i : ℕ) → i < h.count → get_or c.loop-i.left i blank ≡ fronts c.args.k (get_or h.suspects i blank)
-    = λ i l. mapped_at (fronts c.args.k) _ _ c.loop-i.i n c.loop-i.invariant.0 i (omega arith) in
+    let at = each (fronts c.args.k) h c.loop-i.before c.loop-i.i (omega arith) (omega arith) c.loop-i.invariant.0 in
     record {
       few = h.few;
       some = h.some;
@@ -35,9 +53,7 @@ invariant_of-before c =
 pub invariant_of-after : goal.invariant_of-after
 invariant_of-after c =
     let h = c.args.hunk in
-    let n : c.loop-i.i ≤ length h.suspects = omega arith in
-    let at : (i : ℕ) → i < h.count → get_or c.loop-i.right i blank ≡ backs c.args.k (get_or h.suspects i blank)
-    = λ i l. mapped_at (backs c.args.k) _ _ c.loop-i.i n c.loop-i.invariant.1 i (omega arith) in
+    let at = each (backs c.args.k) h c.loop-i.after c.loop-i.i (omega arith) (omega arith) c.loop-i.invariant.1 in
     record {
       few = h.few;
       some = h.some;
@@ -51,8 +67,7 @@ invariant_of-after c =
 pub returns : goal.returns
 returns c =
     let h = c.args.hunk in
-    let e : c.loop-i.i ≡ h.count = omega arith in
     record {
-      front = same-piece _ _ _ _ _ (omega arith) (ap (map named) (mapped-all (fronts c.args.k) _ _ _ _ e c.loop-i.invariant.0) ∙ named-fronts c.args.k _);
-      back = same-piece _ _ _ _ _ (omega arith) (ap (map named) (mapped-all (backs c.args.k) _ _ _ _ e c.loop-i.invariant.1) ∙ named-backs c.args.k _);
+      front = same-piece _ _ _ _ _ (omega arith) (ap (map named) (every (fronts c.args.k) h c.loop-i.before c.loop-i.i (omega arith) (omega arith) c.loop-i.invariant.0) ∙ named-fronts c.args.k _);
+      back = same-piece _ _ _ _ _ (omega arith) (ap (map named) (every (backs c.args.k) h c.loop-i.after c.loop-i.i (omega arith) (omega arith) c.loop-i.invariant.1) ∙ named-backs c.args.k _);
     }

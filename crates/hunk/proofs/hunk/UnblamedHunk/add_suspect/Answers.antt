@@ -14,7 +14,7 @@ invariant_of-result c =
     let h = c.args.self in
     let r = h.range_in_blamed_file in
     let ss = h.suspects in
-    let new : Suspect = record { source = c.args.source; range = span_of (r.end - r.start) c.args.start } in
+    let new : Suspect = record { source = c.args.source; range = record { start = c.args.start; end = c.args.start + c.len-size.result } } in
     let n : h.count < length ss = omega arith in
     let few : h.count ≤ length ss = omega arith in
     let l : h.count + 1 ≤ length (set ss h.count new) = simp length-set (omega arith) in
@@ -29,7 +29,7 @@ returns c =
     let h = c.args.self in
     let r = h.range_in_blamed_file in
     let ss = h.suspects in
-    let new : Suspect = record { source = c.args.source; range = span_of (r.end - r.start) c.args.start } in
+    let new : Suspect = record { source = c.args.source; range = record { start = c.args.start; end = c.args.start + c.len-size.result } } in
     let n : h.count < length ss = omega arith in
     let few : h.count ≤ length ss = omega arith in
     let f : length (map named (take h.count ss)) < 8 = simp (length-map, length-take-le h.count ss few) (omega arith) in
