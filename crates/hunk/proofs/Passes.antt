@@ -1,10 +1,10 @@
 -- A suspect renamed in its place, and a suspect dropped.
 use Rattle.std.proofs.Common.{◌≡◌, ℕ, ◌+◌, ◌<◌, ◌≤◌, Bool, true, false, cond, List, [], ◌∷◌, ◌++◌, map, length, get_or, take, set, filter, sym, refl, ap, ◌∙◌, inl, inr, arith}
 use Rattle.std.specs.List.{AllByRecursion}
-use Rattle.std.proofs.lemmas.List.{append-nil, get_or-map, length-map, length-take-le, take_more_set}
+use Rattle.std.proofs.lemmas.List.{append-nil, length-map, length-take-le, take_more_set}
 use Rattle.std.proofs.lemmas.List.Elements.{filter_more}
 use Rattle.std.proofs.ByRecursion.{All-map, All-weaker, all_kept_by}
-use Rattle.std.proofs.lemmas.Bool.{cases_Bool, cond_both, cond-true, cond-false, eqb-true, eqb-false, ne_eqb, both_ways}
+use Rattle.std.proofs.lemmas.Bool.{cases_Bool, cond_both, eqb-true, eqb-false, ne_eqb, both_ways}
 use Rattle.change.specs.declared.span.Span.{Span}
 use Rattle.hunk.specs.declared.source.Source.{Source}
 use Rattle.hunk.specs.declared.suspect.Suspect.{Suspect}

@@ -1,12 +1,7 @@
 -- The range of a suspect.
-use Rattle.std.proofs.Common.{◌≡◌, ℕ, ◌+◌, ◌-◌, ◌<◌, ◌≤◌, cond, List, map, length, get_or, take, drop, Some, ap, ◌∙◌, arith}
-use Rattle.std.proofs.lemmas.List.{get_or-take, length-take, length-take-le, at_drop_more}
+use Rattle.std.proofs.Common.{◌≡◌, ◌+◌, ◌-◌, ◌<◌, ap, arith}
 use Rattle.change.specs.declared.span.Span.{Span}
-use Rattle.hunk.specs.declared.source.Source.{Source}
-use Rattle.hunk.specs.declared.suspect.Suspect.{Suspect}
-use Rattle.hunk.specs.Hunks.{same_source, start_in, span_of, named}
-use Rattle.hunk.specs.Sound.{blank}
-use Rattle.hunk.specs.Rows.{range_at}
+use Rattle.hunk.specs.Hunks.{span_of}
 
 -- a range of as many lines as r is told by its start
 pub told-by-start : (s r : Span) → r.start < r.end → s.start + r.end ≡ s.end + r.start → s ≡ span_of (r.end - r.start) s.start

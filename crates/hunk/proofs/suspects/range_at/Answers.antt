@@ -1,10 +1,9 @@
-use Rattle.std.proofs.Common.{rules, tests, ◌≡◌, Bool, cond, List, [], ◌∷◌, None, Some, Option, Bor, refl, ◌∙◌, ap, inl, inr}
+use Rattle.std.proofs.Common.{rules, tests, ◌≡◌, List, [], ◌∷◌, None, Some, Option, Bor, refl, ◌∙◌, ap, inl, inr}
 use Rattle.std.specs.List.{find}
 use Rattle.std.specs.Option.{option_map}
 use Rattle.std.proofs.lemmas.Bool.{cases_Bool}
 use Rattle.std.proofs.lemmas.Iterator.{YieldsList-from_slice}
 use Rattle.std.proofs.lemmas.Iterator.Search.{find_from_yields_List}
-use Rattle.change.specs.declared.span.Span.{Span}
 use Rattle.hunk.specs.declared.source.Source.{Source}
 use Rattle.hunk.specs.declared.suspect.Suspect.{Suspect}
 use Rattle.hunk.specs.Hunks.{same_source}

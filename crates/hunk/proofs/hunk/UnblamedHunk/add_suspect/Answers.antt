@@ -1,7 +1,7 @@
-use Rattle.std.proofs.Common.{◌+◌, ◌-◌, ◌<◌, ◌≤◌, map, length, take, set, Ok, sym, refl, ap, ◌∙◌, arith}
+use Rattle.std.proofs.Common.{◌+◌, ◌<◌, ◌≤◌, map, length, take, set, Ok, sym, refl, ap, ◌∙◌, arith}
 use Rattle.std.proofs.lemmas.List.{length-set, length-map, length-take-le, map_push, take_more_set}
 use Rattle.hunk.specs.declared.suspect.Suspect.{Suspect}
-use Rattle.hunk.specs.Hunks.{named, span_of}
+use Rattle.hunk.specs.Hunks.{named}
 use Rattle.hunk.specs.Rows.{piece_of}
 use Rattle.hunk.proofs.Cuts.{same-piece}
 use Rattle.hunk.proofs.Owing.{owed, sound-from}

@@ -1,5 +1,4 @@
-use Rattle.std.proofs.Common.{◌≡◌, ◌≤◌, length, take, sym, ap, ◌∙◌, subst, arith}
-use Rattle.std.specs.List.{AllByRecursion}
+use Rattle.std.proofs.Common.{◌≤◌, length, take, sym, ◌∙◌, subst, arith}
 use Rattle.hunk.proofs.Owing.{owed}
 use Rattle.hunk.proofs.Rowwise.{range-told, range-within, InRange}
 use Rattle.hunk.proofs.hunk.UnblamedHunk.get_range.Goals as goal

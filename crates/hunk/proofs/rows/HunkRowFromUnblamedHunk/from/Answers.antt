@@ -1,4 +1,4 @@
-use Rattle.std.proofs.Common.{◌≡◌, ◌<◌, ◌≤◌, length, ◌∙◌, arith}
+use Rattle.std.proofs.Common.{◌≤◌, length, arith}
 use Rattle.hunk.proofs.Owing.{owed}
 use Rattle.hunk.proofs.Checks.{row-of}
 use Rattle.hunk.proofs.rows.HunkRowFromUnblamedHunk.from.Goals as goal
