@@ -2,8 +2,10 @@ use crate::change::Change;
 use crate::line_range::LineRange;
 use crate::list::{BadList, FILE_LIMIT, Totals, check_list};
 use crate::place::kept;
-use crate::refusal::Refusal;
+use crate::refusal::{Refusal, Told};
 use crate::span::Span;
+use crate::unmade::Unmade;
+use crate::valid::ValidList;
 use std::test::Fail;
 
 fn unchanged(start: u32, end: u32) -> Change {
@@ -139,4 +141,36 @@ fn a_line_range_has_a_line(rt: HostRuntime) -> Result<(), Fail> {
     };
     assert_eq!(rt; (range.start(), range.end(), range.len()), (3, 5, 2));
     Ok(())
+}
+
+#[test]
+fn refusals_and_ranges_are_shown(rt: HostRuntime) -> Result<(), Fail> {
+    let heap = rt.alloc();
+    let refusal = format!(in heap; "{}", Told(BadList { position: 7 }))?;
+    assert!(rt; refusal.as_str() == "4 BadList");
+    let range = format!(in heap; "{}", Span { start: 3, end: 5 })?;
+    assert!(rt; range.as_str() == "3..5");
+    assert_eq!(rt; Span { start: 3, end: 5 }.len(), 2);
+    assert_eq!(rt; Span { start: 5, end: 3 }.len(), 0);
+    Ok(())
+}
+
+#[test]
+fn a_valid_list_has_its_totals(rt: HostRuntime) -> Result<(), Fail> {
+    let changes = [unchanged(0, 4), added(4, 6, 1), unchanged(6, 10)];
+    let list = ValidList::new(&changes)?;
+    assert_eq!(rt; list.totals, Totals { new: 10, old: 9 });
+    assert_eq!(rt; list.changes.len(), 3);
+    assert!(rt; ValidList::new(&changes[1..]).is_err());
+    Ok(())
+}
+
+#[test]
+fn want_of_memory_has_a_number(rt: HostRuntime) {
+    let none: Unmade<BadList> = Unmade::OutOfMemory;
+    assert_eq!(rt; none.number(), 255);
+    assert!(rt; none.name() == "OutOfMemory");
+    let refused = Unmade::Refused(BadList { position: 7 });
+    assert_eq!(rt; refused.number(), 4);
+    assert!(rt; refused.name() == "BadList");
 }

@@ -1,8 +1,8 @@
-ghost use Rattle.std.specs.Prelude.{◌≡◌, codes};
+ghost use Rattle.std.specs.Prelude.{◌≡◌};
 ghost use Rattle.text.specs.Decimal.{told};
 ghost use Rattle.listing.specs.Format.{Reads};
 ghost use Rattle.listing.specs.Listings.{tell, kind_of};
-ghost use Rattle.listing.specs.Parsing.{skip, bytes, span_of, count_of, unchanged_of, added_of, deleted_of, change_of};
+ghost use Rattle.listing.specs.Parsing.{span_of, count_of, unchanged_of, added_of, deleted_of, change_of};
 
 use change::change::Change;
 use change::span::Span;
@@ -17,40 +17,20 @@ pub enum Line<'a> {
     Other,
 }
 
-// What stands behind `..`.
-fn dots(text: &[u8]) -> Option<&[u8]>
-    ensures { bytes result ≡ skip (codes "..") text.now }
-{
-    match text {
-        [b'.', b'.', rest @ ..] => Some(rest),
-        _ => None,
-    }
-}
-
 // The range `a..b` in front of the text, and what stands behind it.
 fn span(text: &[u8]) -> Option<(Span, &[u8])>
     ensures { told result ≡ span_of text.now }
 {
     let (start, rest) = number(text, u32::MAX)?;
-    let (end, rest) = number(dots(rest)?, u32::MAX)?;
+    let (end, rest) = number(rest.strip_prefix(b"..")?, u32::MAX)?;
     Some((Span { start, end }, rest))
-}
-
-// What stands behind `/`.
-fn slash(text: &[u8]) -> Option<&[u8]>
-    ensures { bytes result ≡ skip (codes "/") text.now }
-{
-    match text {
-        [b'/', rest @ ..] => Some(rest),
-        _ => None,
-    }
 }
 
 // The count that the text writes as `/n`.
 fn count(text: &[u8]) -> Option<u32>
     ensures { result ≡ count_of text.now }
 {
-    let (count, rest) = number(slash(text)?, u32::MAX)?;
+    let (count, rest) = number(text.strip_prefix(b"/")?, u32::MAX)?;
     if rest.is_empty() { Some(count) } else { None }
 }
 

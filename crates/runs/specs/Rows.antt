@@ -7,8 +7,9 @@ use Rattle.change.specs.Places.{kept}
 use Rattle.runs.specs.declared.row.Origin.{Origin}
 use Rattle.runs.specs.declared.row.Origin.TheVariants.{Set, Kept}
 use Rattle.runs.specs.declared.row.Row.{Row}
-use Rattle.runs.specs.declared.fault.Fault.{Fault}
-use Rattle.runs.specs.declared.fault.Fault.TheVariants.{BadList, OutOfMemory}
+use Rattle.change.specs.declared.list.BadList.{BadList}
+use Rattle.change.specs.declared.unmade.Unmade.{Unmade}
+use Rattle.change.specs.declared.unmade.Unmade.TheVariants.{Refused, OutOfMemory}
 
 -- lines from `start` up to `end`, and where the first stands in the parent, if they were kept
 pub record Run : Type 0 where
@@ -52,9 +53,9 @@ abbrev pub row_of : Row → Run
 row_of r = record { start = r.lines.start; end = r.lines.end; place = place_of r.origin }
 
 -- what is answered of a list: where its check refuses it, that refusal, and else its rows, if there is memory for them
-abbrev pub Answered : {Z : Type 0} → List Change → Result (Vec Row Z) Fault → Type 0
+abbrev pub Answered : {Z : Type 0} → List Change → Result (Vec Row Z) (Unmade BadList) → Type 0
 Answered cs (Ok v) = MatchResult (checked cs) (λ _. map row_of (vec_items v) ≡ rows_of cs) (λ _. ⊥)
-Answered cs (Err (BadList b)) = checked cs ≡ Err b
+Answered cs (Err (Refused b)) = checked cs ≡ Err b
 Answered cs (Err OutOfMemory) = OnErr (checked cs) (⊥)
 
 -- the place of the line n by the run that has it

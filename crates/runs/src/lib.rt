@@ -4,7 +4,6 @@
 #![tactic(auto)]
 
 pub mod count;
-pub mod fault;
 pub mod part;
 pub mod row;
 pub mod rows;

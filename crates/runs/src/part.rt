@@ -18,10 +18,7 @@ pub fn part(row: Row, range: Span) -> Option<Row>
     let lines = LineRange::new(start, end)?;
     let origin = match row.origin {
         Origin::Set => Origin::Set,
-        Origin::Kept(place) => match place.checked_add(start - row.lines.start()) {
-            Some(there) => Origin::Kept(there),
-            None => return None,
-        },
+        Origin::Kept(place) => Origin::Kept(place.checked_add(start - row.lines.start())?),
     };
     Some(Row { lines, origin })
 }

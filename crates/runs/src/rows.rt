@@ -4,11 +4,11 @@ ghost use Rattle.change.specs.Lists.{old_lines};
 ghost use Rattle.runs.specs.Rows.{row_of, place_of, goes_on, Answered, ByLine};
 ghost use Rattle.runs.specs.Steps.{joined, put, Meets, stretch_of};
 
-use crate::fault::Fault;
 use crate::row::{Origin, Row};
 use change::change::Change;
 use change::line_range::LineRange;
-use change::list::check_list;
+use change::list::{BadList, check_list};
+use change::unmade::Unmade;
 use std::alloc::Global;
 
 // Whether lines of this origin, right behind the row, go on from it.
@@ -39,18 +39,17 @@ fn join(first: Row, second: Row) -> Option<Row>
 }
 
 // Puts a row behind the rows: into the last, if it goes on from that, or as one of its own.
-fn append(rows: &mut Vec<Row>, row: Row) -> Result<(), Fault>
+fn append(rows: &mut Vec<Row>, row: Row) -> Result<(), Unmade<BadList>>
     requires { Meets (row_of row).start (reverse (map row_of rows.old.items)) }
     ensures { MatchResult result
         (λ _. reverse (map row_of rows.new.items) ≡ put (row_of row) (reverse (map row_of rows.old.items)))
-        (λ e. e ≡ Fault.OutOfMemory) }
+        (λ e. e ≡ Unmade.OutOfMemory) }
 {
-    if let Some(last) = rows.pop() {
-        if let Some(joined) = join(last, row) {
-            rows.push(joined)?;
+    if let Some(last) = rows.last_mut() {
+        if let Some(joined) = join(*last, row) {
+            *last = joined;
             return Ok(());
         }
-        rows.push(last)?;
     }
     rows.push(row)?;
     Ok(())
@@ -60,23 +59,13 @@ fn append(rows: &mut Vec<Row>, row: Row) -> Result<(), Fault>
 fn stretch(change: Change, old: u32) -> Option<Row>
     ensures { option_map row_of result ≡ stretch_of old change }
 {
-    match change {
-        Change::Unchanged(range) => {
-            let lines = LineRange::new(range.start, range.end)?;
-            Some(Row {
-                lines,
-                origin: Origin::Kept(old),
-            })
-        }
-        Change::AddedOrReplaced(range, _) => {
-            let lines = LineRange::new(range.start, range.end)?;
-            Some(Row {
-                lines,
-                origin: Origin::Set,
-            })
-        }
-        Change::Deleted(_, _) => None,
-    }
+    let (range, origin) = match change {
+        Change::Unchanged(range) => (range, Origin::Kept(old)),
+        Change::AddedOrReplaced(range, _) => (range, Origin::Set),
+        Change::Deleted(_, _) => return None,
+    };
+    let lines = LineRange::new(range.start, range.end)?;
+    Some(Row { lines, origin })
 }
 
 // How many lines of the parent the change passes.
@@ -84,14 +73,13 @@ fn old_lines(change: Change) -> u32
     ensures { result ≡ old_lines change }
 {
     match change {
-        Change::Unchanged(range) => range.end.saturating_sub(range.start),
-        Change::AddedOrReplaced(_, deleted) => deleted,
-        Change::Deleted(_, deleted) => deleted,
+        Change::Unchanged(range) => range.len(),
+        Change::AddedOrReplaced(_, deleted) | Change::Deleted(_, deleted) => deleted,
     }
 }
 
 // The lines of the list's file as rows, in order, or why there are none.
-pub fn rows(heap: Global, changes: &[Change]) -> Result<Vec<Row>, Fault>
+pub fn rows(heap: Global, changes: &[Change]) -> Result<Vec<Row>, Unmade<BadList>>
     ensures is { Answered changes.now result }
     ensures covers { IfOk result (ByLine changes.now) }
 {

@@ -1,9 +1,9 @@
-use crate::fault::Fault;
 use crate::rows::rows;
 use change::change::Change;
 use change::change::Change::{AddedOrReplaced, Deleted, Unchanged};
 use change::list::BadList;
 use change::span::Span;
+use change::unmade::Unmade;
 use std::alloc::Global;
 use std::test::Fail;
 
@@ -72,7 +72,7 @@ fn gap_refused(rt: HostRuntime) -> Result<(), Fail> {
     match rows(rt.alloc(), &[Unchanged(span(0, 2)), Unchanged(span(3, 5))]) {
         Ok(_) => Err(Fail::new("a list with a gap is taken")),
         Err(fault) => {
-            assert_eq!(rt; fault, Fault::BadList(BadList { position: 1 }));
+            assert_eq!(rt; fault, Unmade::Refused(BadList { position: 1 }));
             Ok(())
         },
     }

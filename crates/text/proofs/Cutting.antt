@@ -1,21 +1,21 @@
 -- The first line of a text and the lines behind it.
-use Rattle.std.proofs.Common.{◌≡◌, ℕ, ◌+◌, ◌<◌, true, false, eqb, List, [], ◌∷◌, ◌++◌, length, get_or, take, drop, sym, ap, ◌∙◌, inl, inr, arith}
-use Rattle.std.proofs.lemmas.List.{at_drop_more, take_more, append_assoc}
+use Rattle.std.proofs.Common.{◌≡◌, ◌==◌, refl, ℕ, suc, ◌+◌, ◌<◌, eqb, List, [], ◌∷◌, length, ap, inl, inr, arith}
+use Rattle.std.specs.List.{before_first, after_first, position_or_len}
 use Rattle.std.proofs.lemmas.Bool.{cases_Bool}
 use Rattle.text.specs.Cuts.{line_of, rest_of, in_front, lines_of}
 
--- one byte more of the first line
-pub line-more : (s : List ℕ) (i : ℕ) → i < length s → eqb (get_or s i 0) 10 ≡ false
-    → (take (i + 1) s ++ line_of (drop (i + 1) s) ≡ take i s ++ line_of (drop i s)) × (rest_of (drop (i + 1) s) ≡ rest_of (drop i s))
-line-more s i h e =
-    let l : line_of (drop i s) ≡ get_or s i 0 ∷ line_of (drop (i + 1) s) = at_drop_more line_of s i 0 h ∙ rw e in (
-      rw (l, take_more s i 0 h, append_assoc (take i s) (get_or s i 0 ∷ []) (line_of (drop (i + 1) s))),
-      sym (at_drop_more rest_of s i 0 h ∙ rw e),
-    )
-
--- its end
-pub line-ends : (s : List ℕ) (i : ℕ) → i < length s → eqb (get_or s i 0) 10 ≡ true → (line_of (drop i s) ≡ []) × (rest_of (drop i s) ≡ drop (i + 1) s)
-line-ends s i h e = (at_drop_more line_of s i 0 h ∙ rw e, at_drop_more rest_of s i 0 h ∙ rw e)
+-- the first line ends before the first LF
+pub cut_at : (s : List ℕ) → (line_of s ≡ before_first (λ b. b == 10) s) × (rest_of s ≡ after_first (λ b. b == 10) s)
+cut_at [] = (refl, refl)
+cut_at (b ∷ bs) =
+    let more = cut_at bs in
+    let n = position_or_len (λ b. b == 10) bs in
+    let p : 1 + n ≡ suc n = omega arith in
+    let q : 1 + n + 1 ≡ suc (n + 1) = omega arith in
+    elim (cases_Bool (eqb b 10)) [
+      | inl e ↦ (rw e refl, rw e refl)
+      | inr e ↦ (rw e (rw p (ap (λ l. b ∷ l) more.0)), rw e (rw q more.1))
+    ]
 
 -- the lines of a text are its first line and those behind it
 pub lines_cut : (b : ℕ) (bs : List ℕ) → lines_of (b ∷ bs) ≡ line_of (b ∷ bs) ∷ lines_of (rest_of (b ∷ bs))
@@ -30,3 +30,8 @@ rest-shorter b [] = elim (cases_Bool (eqb b 10)) [ inl e ↦ rw e (omega arith) 
 rest-shorter b (x ∷ xs) =
     let more = rest-shorter x xs in
     elim (cases_Bool (eqb b 10)) [ inl e ↦ rw e (omega arith) | inr e ↦ rw e (omega (arith, more)) ]
+
+-- .. if it has a byte
+pub lines-of-some : (s : List ℕ) → 0 < length s → lines_of s ≡ line_of s ∷ lines_of (rest_of s)
+lines-of-some [] h = absurd (omega arith)
+lines-of-some (b ∷ bs) h = lines_cut b bs

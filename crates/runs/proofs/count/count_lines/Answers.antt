@@ -13,12 +13,12 @@ loop-change-init c = record { keeps = omega arith; sets = omega arith; fits = c.
 pub overflow_add-count : goal.overflow_add-count
 overflow_add-count c =
     let w = counted-here _ c.loop-change.change-index (Unchanged c.in-Unchanged.range) _ c.loop-change-test.true c.in-Unchanged.is c.loop-change.invariant in
-    omega (arith, count_fits _ _ _ w, c.lines.ensures)
+    omega (arith, count_fits _ _ _ w, c.len.ensures)
 
 pub overflow_add-count-in-AddedOrReplaced : goal.overflow_add-count-in-AddedOrReplaced
 overflow_add-count-in-AddedOrReplaced c =
     let w = counted-here _ c.loop-change.change-index (AddedOrReplaced c.in-AddedOrReplaced.range c.in-AddedOrReplaced.field-1) _ c.loop-change-test.true c.in-AddedOrReplaced.is c.loop-change.invariant in
-    omega (arith, count_fits _ _ _ w, c.lines-in-AddedOrReplaced.ensures)
+    omega (arith, count_fits _ _ _ w, c.len-in-AddedOrReplaced.ensures)
 
 pub loop-change-preserved : goal.loop-change-preserved
 loop-change-preserved c =
@@ -26,9 +26,9 @@ loop-change-preserved c =
     let h = c.loop-change-test.true in
     elim c.match-change.branch [
       | in-Unchanged w ↦
-          rw (w.count-is, w.lines.ensures) (counted-unchanged _ _ _ _ (counted-here _ i (Unchanged w.in-Unchanged.range) _ h w.in-Unchanged.is c.loop-change.invariant))
+          rw (w.count-is, w.len.ensures) (counted-unchanged _ _ _ _ (counted-here _ i (Unchanged w.in-Unchanged.range) _ h w.in-Unchanged.is c.loop-change.invariant))
       | in-AddedOrReplaced w ↦
-          rw (w.count-is, w.lines-in-AddedOrReplaced.ensures)
+          rw (w.count-is, w.len-in-AddedOrReplaced.ensures)
           (counted-added _ _ _ _ _ (counted-here _ i (AddedOrReplaced w.in-AddedOrReplaced.range w.in-AddedOrReplaced.field-1) _ h w.in-AddedOrReplaced.is c.loop-change.invariant))
       | in-Deleted w ↦
           rw w.count-is (counted-deleted _ _ _ _ _ (counted-here _ i (Deleted w.in-Deleted.field-0 w.in-Deleted.field-1) _ h w.in-Deleted.is c.loop-change.invariant))

@@ -1,4 +1,4 @@
-use Rattle.std.proofs.Common.{◌≡◌, ◌+◌, ◌-◌, ◌^◌, ◌<◌, max, Some, None, sym, ap, subst, arith, rules}
+use Rattle.std.proofs.Common.{◌≡◌, ◌∙◌, ◌+◌, ◌-◌, ◌^◌, ◌<◌, max, Some, sym, ap, subst, arith, rules}
 use Rattle.std.specs.Option.{option_map}
 use Rattle.runs.specs.declared.row.Origin.TheVariants.{Set, Kept}
 use Rattle.runs.specs.Rows.{row_of, place_of}
@@ -6,13 +6,14 @@ use Rattle.runs.specs.Parts.{part_of, Shared}
 use Rattle.runs.proofs.Parting.{part-shared, no_part}
 use Rattle.runs.proofs.part.part.Goals as goal
 
-pub returns-in-None : goal.returns-in-None
-returns-in-None c =
+pub returns-in_err-checked_add-in-Kept : goal.returns-in_err-checked_add-in-Kept
+returns-in_err-checked_add-in-Kept c =
     let r = row_of c.args.row in
     let s = c.args.range in
     let n : c.in-Kept.place + (max r.start s.start - r.start) < 2 ^ 32 → ⊥ =
-    λ l. c.in-None.ensures (omega (arith, l, c.start.ensures, c.max-start.ensures, c.start-in-Kept.ensures)) in
-    let e : None ≡ part_of s r = no_part s r c.in-Kept.place (ap place_of c.in-Kept.is) n in
+    λ l. c.in_err-checked_add-in-Kept.ensures (omega (arith, l, c.start.ensures, c.max-start.ensures, c.start-in-Kept.ensures)) in
+    let e = c.from_residual-in_err-checked_add-in-Kept.ensures in
+    let e : option_map row_of c.from_residual-in_err-checked_add-in-Kept.result ≡ part_of s r = ap (option_map row_of) e ∙ no_part s r c.in-Kept.place (ap place_of c.in-Kept.is) n in
     record { is = e; lines = λ f. subst (Shared s r) (sym e) (part-shared s r f) }
 
 pub returns-in_err-lines : goal.returns-in_err-lines
@@ -29,9 +30,9 @@ returns-in-Set c =
     let e : Some (row_of (record { lines = c.in_ok-lines.lines; origin = Set })) ≡ part_of s r = search rules in
     record { is = e; lines = λ f. subst (Shared s r) (sym e) (part-shared s r f) }
 
-pub returns-in-Some : goal.returns-in-Some
-returns-in-Some c =
+pub returns-in_ok-checked_add-in-Kept : goal.returns-in_ok-checked_add-in-Kept
+returns-in_ok-checked_add-in-Kept c =
     let r = row_of c.args.row in
     let s = c.args.range in
-    let e : Some (row_of (record { lines = c.in_ok-lines.lines; origin = Kept c.in-Some.there })) ≡ part_of s r = search rules in
+    let e : Some (row_of (record { lines = c.in_ok-lines.lines; origin = Kept c.in_ok-checked_add-in-Kept.field-0 })) ≡ part_of s r = search rules in
     record { is = e; lines = λ f. subst (Shared s r) (sym e) (part-shared s r f) }
