@@ -7,7 +7,6 @@ use std::env;
 use std::process::ExitCode;
 
 mod asked;
-mod input;
 mod lists;
 mod options;
 

@@ -1,6 +1,6 @@
 use crate::asked::one_based;
 use anyhow::anyhow;
-use change::refusal::Refusal;
+use change::refusal::Told;
 use ranges::blame_ranges::BlameRanges;
 use std::env::Args;
 
@@ -55,12 +55,11 @@ fn ask(rt: &HostRuntime, ranges: &mut BlameRanges, text: &str) -> anyhow::Result
             "-L takes lines, as FIRST,LAST, and not `{text}`"
         )?));
     };
-    match ranges.add_one_based_inclusive_range(lines.first, lines.last) {
+    match ranges.add_one_based_inclusive_range(lines) {
         Ok(()) => Ok(()),
         Err(fault) => {
-            let number = fault.number();
-            let name = fault.name();
-            Err(anyhow!(format!(in rt.alloc(); "-L {text}: refused: {number} {name}")?))
+            let fault = Told(fault);
+            Err(anyhow!(format!(in rt.alloc(); "-L {text}: refused: {fault}")?))
         }
     }
 }

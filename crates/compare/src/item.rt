@@ -12,12 +12,6 @@ use hunk::suspect::Suspect;
 // The most suspects that a row holds.
 const SUSPECTS: usize = 8;
 
-// An unused place for a suspect.
-pub const NOBODY: Suspect = Suspect {
-    source: Source { commit: 0 },
-    range: Span { start: 0, end: 0 },
-};
-
 // What a part of a case is made of.
 pub trait Item: Copy {
     ghost reads: { List ℕ → Option (Self × List ℕ) };
@@ -64,11 +58,11 @@ fn suspects(text: &[u8], count: usize) -> Option<([Suspect; 8], &[u8])>
     requires { count ≤ 8 }
     ensures { told result ≡ suspects_of count text.now }
 {
-    let mut suspects = [NOBODY; 8];
+    let mut suspects = [Suspect::default(); 8];
     let mut rest = text;
-    for i in 0..count {
+    for place in suspects[..count].iter_mut() {
         let (found, behind) = suspect(rest)?;
-        suspects[i] = found;
+        *place = found;
         rest = behind;
     }
     Some((suspects, rest))

@@ -7,11 +7,9 @@ use std::env;
 use std::process::ExitCode;
 
 mod case;
-mod input;
 mod item;
 mod judge;
 mod report;
-mod same;
 mod show;
 #[cfg(test)]
 mod tests;

@@ -2,10 +2,12 @@ use crate::case::{Case, CaseFault, read_case};
 use crate::judge::{Verdict, judge};
 use crate::show::Rows;
 use anyhow::anyhow;
-use text::lines::first_line;
+use change::refusal::Refusal;
+use std::fmt;
+use text::lines::Lines;
 
 // What became of the lines so far.
-#[derive(Clone, Copy)]
+#[derive(Clone, Copy, Default)]
 struct Tally {
     agree: u64,
     differ: u64,
@@ -13,65 +15,60 @@ struct Tally {
     no_case: u64,
 }
 
+impl Tally {
+    // A line of the text, which counts from 1.
+    fn take_line(&mut self, rt: &HostRuntime, number: usize, line: &[u8]) -> anyhow::Result<()> {
+        match read_case(rt.alloc(), line) {
+            Ok(case) => self.take_case(rt, number, &case),
+            Err(CaseFault::Form) => {
+                println!(rt; "line {number}: no case")?;
+                self.no_case = self.no_case.saturating_add(1);
+                Ok(())
+            }
+            Err(CaseFault::OutOfMemory) => Err(anyhow!("no memory for a case")),
+        }
+    }
+
+    fn take_case(&mut self, rt: &HostRuntime, number: usize, case: &Case) -> anyhow::Result<()> {
+        let expected = Rows(&case.expected);
+        match judge(rt.alloc(), case)? {
+            Verdict::Agrees => self.agree = self.agree.saturating_add(1),
+            Verdict::Differs(written) => {
+                let got = Rows(&written);
+                println!(rt; "line {number}: expected {expected}; got {got}")?;
+                self.differ = self.differ.saturating_add(1);
+            }
+            Verdict::Refused(fault) => {
+                let refusal = fault.number();
+                println!(rt; "line {number}: expected {expected}; refused {refusal}")?;
+                self.refused = self.refused.saturating_add(1);
+            }
+        }
+        Ok(())
+    }
+}
+
+impl fmt::Display for Tally {
+    fn fmt<W: fmt::Write>(&self, f: &mut fmt::Formatter<W>) -> fmt::Result {
+        let Tally {
+            agree,
+            differ,
+            refused,
+            no_case,
+        } = *self;
+        let cases = agree.saturating_add(differ).saturating_add(refused);
+        write!(f,
+            "cases: {cases}, agree: {agree}, differ: {differ}, refused: {refused}, no case: {no_case}"
+        )
+    }
+}
+
 // Prints each line of the text that is no case or does not agree, and how many there are.
 pub fn run(rt: &HostRuntime, text: &[u8]) -> anyhow::Result<()> {
-    let mut tally = Tally {
-        agree: 0,
-        differ: 0,
-        refused: 0,
-        no_case: 0,
-    };
-    let mut number: u64 = 1;
-    let mut rest = text;
-    while !rest.is_empty() {
-        let (line, behind) = first_line(rest);
-        tally = take_line(rt, number, line, tally)?;
-        number = number.saturating_add(1);
-        rest = behind;
+    let mut tally = Tally::default();
+    for (before, line) in Lines(text).enumerate() {
+        tally.take_line(rt, before.saturating_add(1), line)?;
     }
-    print_tally(rt, tally)
-}
-
-// A line of the text, which counts from 1.
-fn take_line(rt: &HostRuntime, number: u64, line: &[u8], tally: Tally) -> anyhow::Result<Tally> {
-    let mut tally = tally;
-    match read_case(rt.alloc(), line) {
-        Ok(case) => take_case(rt, number, &case, tally),
-        Err(CaseFault::Form) => {
-            println!(rt; "line {number}: no case")?;
-            tally.no_case = tally.no_case.saturating_add(1);
-            Ok(tally)
-        }
-        Err(CaseFault::OutOfMemory) => Err(anyhow!("no memory for a case")),
-    }
-}
-
-fn take_case(rt: &HostRuntime, number: u64, case: &Case, tally: Tally) -> anyhow::Result<Tally> {
-    let mut tally = tally;
-    let expected = Rows(case.expected.as_slice());
-    match judge(rt.alloc(), case)? {
-        Verdict::Agrees => tally.agree = tally.agree.saturating_add(1),
-        Verdict::Differs(written) => {
-            let got = Rows(written.as_slice());
-            println!(rt; "line {number}: expected {expected}; got {got}")?;
-            tally.differ = tally.differ.saturating_add(1);
-        }
-        Verdict::Refused(refusal) => {
-            println!(rt; "line {number}: expected {expected}; refused {refusal}")?;
-            tally.refused = tally.refused.saturating_add(1);
-        }
-    }
-    Ok(tally)
-}
-
-fn print_tally(rt: &HostRuntime, tally: Tally) -> anyhow::Result<()> {
-    let agree = tally.agree;
-    let differ = tally.differ;
-    let refused = tally.refused;
-    let no_case = tally.no_case;
-    let cases = agree.saturating_add(differ).saturating_add(refused);
-    println!(rt;
-        "cases: {cases}, agree: {agree}, differ: {differ}, refused: {refused}, no case: {no_case}"
-    )?;
+    println!(rt; "{tally}")?;
     Ok(())
 }

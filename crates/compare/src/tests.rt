@@ -1,5 +1,4 @@
 use crate::case::{CaseFault, read_case};
-use crate::item::NOBODY;
 use crate::judge::{Verdict, verdict_on};
 use crate::show::Rows;
 use change::change::Change;
@@ -21,7 +20,7 @@ fn suspect(commit: u32, start: u32, end: u32) -> Suspect {
 }
 
 fn row(start: u32, end: u32, first: Suspect, second: Option<Suspect>) -> HunkRow {
-    let mut suspects = [NOBODY; 8];
+    let mut suspects = [Suspect::default(); 8];
     let mut count = 1;
     suspects[0] = first;
     if let Some(second) = second {

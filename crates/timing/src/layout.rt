@@ -5,6 +5,7 @@ use change::span::Span;
 use hunk::row::HunkRow;
 use hunk::source::Source;
 use hunk::suspect::Suspect;
+use std::array;
 
 // The commit that each hunk names, and its parent.
 pub const SUSPECT: Source = Source { commit: 1 };
@@ -30,8 +31,33 @@ pub enum Layout {
     Kept,
 }
 
+// No table has this number.
+#[derive(Clone, Copy, Debug, PartialEq, Eq)]
+pub struct NoLayout(pub u32);
+
+impl TryFrom<u32> for Layout {
+    type Error = NoLayout;
+
+    fn try_from(number: u32) -> Result<Layout, NoLayout> {
+        match number {
+            0 => Ok(Layout::Whole),
+            1 => Ok(Layout::Cut),
+            2 => Ok(Layout::Kept),
+            _ => Err(NoLayout(number)),
+        }
+    }
+}
+
+fn unchanged(start: u32, end: u32) -> Change {
+    Change::Unchanged(Span { start, end })
+}
+
+fn replaced(start: u32, end: u32) -> Change {
+    Change::AddedOrReplaced(Span { start, end }, 2)
+}
+
 // The hunk of these lines, which stand at the same place in the commit.
-pub fn row(start: u32, end: u32) -> HunkRow {
+fn row(start: u32, end: u32) -> HunkRow {
     let range = Span { start, end };
     HunkRow {
         range_in_blamed_file: range,
@@ -43,116 +69,83 @@ pub fn row(start: u32, end: u32) -> HunkRow {
     }
 }
 
-// Hunk i of the table.
-fn row_of(layout: Layout, i: u32) -> HunkRow
+// The changes of group i of the first table.
+fn whole_group(i: u32) -> [Change; 2]
     requires { i < 256 }
 {
-    match layout {
-        Layout::Whole => {
-            if i % 2 == 0 {
-                row(12 * i, 12 * i + 8)
-            } else {
-                row(12 * i + 8, 12 * i + 12)
-            }
-        }
-        Layout::Cut => row(0, 12 * 128),
-        Layout::Kept => row(4 * i, 4 * i + 4),
-    }
+    let start = 12 * i;
+    [unchanged(start, start + 8), replaced(start + 8, start + 12)]
 }
 
-// Part `part` of group i of the first table, by 2 parts.
-fn whole_change(i: u32, part: u32) -> Change
-    requires { i < 256 }
-{
-    match part {
-        0 => Change::Unchanged(Span {
-            start: 12 * i,
-            end: 12 * i + 8,
-        }),
-        _ => Change::AddedOrReplaced(
-            Span {
-                start: 12 * i + 8,
-                end: 12 * i + 12,
-            },
-            2,
-        ),
-    }
-}
-
-// Part `part` of group i of the second table, by 4 parts.
-fn cut_change(i: u32, part: u32) -> Change
+// The changes of group i of the second table.
+fn cut_group(i: u32) -> [Change; 4]
     requires { i < 128 }
 {
-    match part {
-        0 => Change::AddedOrReplaced(
-            Span {
-                start: 12 * i,
-                end: 12 * i + 4,
-            },
-            2,
-        ),
-        1 => Change::Deleted(12 * i + 4, 3),
-        2 => Change::Unchanged(Span {
-            start: 12 * i + 4,
-            end: 12 * i + 8,
-        }),
-        _ => Change::Unchanged(Span {
-            start: 12 * i + 8,
-            end: 12 * i + 12,
-        }),
-    }
+    let start = 12 * i;
+    [
+        replaced(start, start + 4),
+        Change::Deleted(start + 4, 3),
+        unchanged(start + 4, start + 8),
+        unchanged(start + 8, start + 12),
+    ]
 }
 
-// Change i of the table.
-fn change_of(layout: Layout, i: u32) -> Change
-    requires { i < 512 }
-{
-    match layout {
-        Layout::Whole => whole_change(i / 2, i % 2),
-        Layout::Cut => cut_change(i / 4, i % 4),
-        Layout::Kept => Change::Unchanged(Span {
-            start: 0,
-            end: 4 * 256,
-        }),
+impl Layout {
+    // Hunk i of the table.
+    fn row(self, i: u32) -> HunkRow
+        requires { i < 256 }
+    {
+        match self {
+            Layout::Whole => {
+                if i % 2 == 0 {
+                    row(12 * i, 12 * i + 8)
+                } else {
+                    row(12 * i + 8, 12 * i + 12)
+                }
+            }
+            Layout::Cut => row(0, 12 * 128),
+            Layout::Kept => row(4 * i, 4 * i + 4),
+        }
     }
-}
 
-// How many hunks the table has.
-pub fn row_count(layout: Layout) -> usize
-    ensures { result ≤ 256 }
-{
-    match layout {
-        Layout::Whole => 256,
-        Layout::Cut => 1,
-        Layout::Kept => 256,
+    // Change i of the table.
+    fn change(self, i: u32) -> Change
+        requires { i < 512 }
+    {
+        match self {
+            Layout::Whole => whole_group(i / 2)[(i % 2) as usize],
+            Layout::Cut => cut_group(i / 4)[(i % 4) as usize],
+            Layout::Kept => unchanged(0, 4 * 256),
+        }
     }
-}
 
-// How many changes it has.
-pub fn change_count(layout: Layout) -> usize
-    ensures { result ≤ 512 }
-{
-    match layout {
-        Layout::Whole => 512,
-        Layout::Cut => 512,
-        Layout::Kept => 1,
+    // How many hunks the table has.
+    pub fn row_count(self) -> usize
+        ensures { result ≤ 256 }
+    {
+        match self {
+            Layout::Whole | Layout::Kept => 256,
+            Layout::Cut => 1,
+        }
     }
-}
 
-// The hunks of the table; only the first `row_count` are its own.
-pub fn rows_of(layout: Layout) -> [HunkRow; ROWS] {
-    let mut rows = [row(0, 0); ROWS];
-    for i in 0..ROWS {
-        rows[i] = row_of(layout, i as u32);
+    // How many changes it has.
+    pub fn change_count(self) -> usize
+        ensures { result ≤ 512 }
+    {
+        match self {
+            Layout::Whole | Layout::Cut => 512,
+            Layout::Kept => 1,
+        }
     }
-    rows
-}
 
-// The changes of the table; only the first `change_count` are its own.
-pub fn changes_of(layout: Layout) -> [Change; CHANGES] {
-    let mut changes = [Change::Deleted(0, 0); CHANGES];
-    for i in 0..CHANGES {
-        changes[i] = change_of(layout, i as u32);
+    // The hunks of the table; only the first `row_count` are its own.
+    pub fn rows(self) -> [HunkRow; ROWS] {
+        array::from_fn(|i| self.row(i as u32))
     }
-    changes
+
+    // The changes of the table; only the first `change_count` are its own.
+    pub fn changes(self) -> [Change; CHANGES] {
+        array::from_fn(|i| self.change(i as u32))
+    }
 }

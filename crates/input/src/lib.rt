@@ -1,3 +1,7 @@
+// What a program is given to read: a file, or standard input.
+
+#![tactic(auto)]
+
 use anyhow::anyhow;
 use std::fs;
 use std::io::Read;
