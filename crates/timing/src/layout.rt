@@ -1,4 +1,5 @@
-ghost use Rattle.std.specs.Prelude.{◌<◌, ◌≤◌};
+ghost use Rattle.std.specs.Prelude.{◌≡◌, ◌<◌, ◌≤◌, MatchResult};
+ghost use Rattle.timing.specs.Layouts.{number_of};
 
 use change::change::Change;
 use change::span::Span;
@@ -37,6 +38,8 @@ pub struct NoLayout(pub u32);
 
 impl TryFrom<u32> for Layout {
     type Error = NoLayout;
+
+    ghost try_from_gives = { λ n r. MatchResult r (λ layout. number_of layout ≡ n) (λ e. (e.0 ≡ n) × (2 < n)) };
 
     fn try_from(number: u32) -> Result<Layout, NoLayout> {
         match number {
