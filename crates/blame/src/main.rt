@@ -30,7 +30,7 @@ fn run(rt: &HostRuntime) -> anyhow::Result<()> {
     match command.as_str() {
         "lists" => {
             let options = options::read(rt, args)?;
-            let text = input::read(rt, options.path)?;
+            let text = program::read(rt, options.path)?;
             lists::run(rt, text.as_slice(), &options.ranges)
         }
         "help" | "--help" | "-h" => {
@@ -46,11 +46,5 @@ fn run(rt: &HostRuntime) -> anyhow::Result<()> {
 }
 
 fn main(rt: HostRuntime) -> ExitCode {
-    match run(&rt) {
-        Ok(()) => ExitCode::SUCCESS,
-        Err(error) => {
-            let _ = eprintln!(rt; "blame: {error}");
-            ExitCode::FAILURE
-        }
-    }
+    program::end(&rt, "blame", run(&rt))
 }

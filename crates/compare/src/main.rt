@@ -22,16 +22,10 @@ fn run(rt: &HostRuntime) -> anyhow::Result<()> {
     if args.next().is_some() {
         return Err(anyhow!("too many arguments; usage: compare [FILE]"));
     }
-    let text = input::read(rt, path)?;
+    let text = program::read(rt, path)?;
     report::run(rt, text.as_slice())
 }
 
 fn main(rt: HostRuntime) -> ExitCode {
-    match run(&rt) {
-        Ok(()) => ExitCode::SUCCESS,
-        Err(error) => {
-            let _ = eprintln!(rt; "compare: {error}");
-            ExitCode::FAILURE
-        }
-    }
+    program::end(&rt, "compare", run(&rt))
 }

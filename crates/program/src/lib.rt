@@ -1,0 +1,40 @@
+// What each program does: it reads a file or its standard input, and ends with a
+// status, and a message where it failed.
+
+#![tactic(auto)]
+
+ghost use Rattle.std.specs.Prelude.{◌≡◌, is_ok, cond};
+ghost use Rattle.std.specs.Process.{exit_status};
+
+use anyhow::anyhow;
+use std::fs;
+use std::io::Read;
+use std::process::ExitCode;
+
+// All bytes of the file, or of standard input where none is named.
+pub fn read(rt: &HostRuntime, path: Option<String>) -> anyhow::Result<Vec<u8>> {
+    match path {
+        Some(path) => match fs::read(rt, path.as_str()) {
+            Ok(bytes) => Ok(bytes),
+            Err(error) => Err(anyhow!(format!(in rt.alloc(); "{path}: {error}")?)),
+        },
+        None => {
+            let mut bytes = Vec::new(rt.alloc());
+            rt.stdin().read_to_end(&mut bytes)?;
+            Ok(bytes)
+        }
+    }
+}
+
+// The status of a program that came to this, and its message on standard error.
+pub fn end(rt: &HostRuntime, program: &str, outcome: anyhow::Result<()>) -> ExitCode
+    ensures { exit_status result ≡ cond (is_ok outcome) 0 1 }
+{
+    match outcome {
+        Ok(()) => ExitCode::SUCCESS,
+        Err(error) => {
+            let _ = eprintln!(rt; "{program}: {error}");
+            ExitCode::FAILURE
+        }
+    }
+}
