@@ -1,4 +1,4 @@
-use anyhow::anyhow;
+use anyhow::bail;
 use change::list::BadList;
 use change::refusal::Told;
 use change::valid::ValidList;
@@ -95,7 +95,7 @@ impl Printer<'_> {
     // counted here; those of a whole list are counted apart.
     fn rows(&mut self, list: ValidList) -> anyhow::Result<()> {
         let Ok(rows) = rows(self.rt.alloc(), list.changes) else {
-            return Err(anyhow!("no memory for the rows of a list"));
+            bail!("no memory for the rows of a list");
         };
         let clipped = self.asked.to_zero_based_exclusive_ranges(list.totals.new);
         for row in rows.iter() {

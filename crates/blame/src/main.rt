@@ -2,7 +2,7 @@
 
 #![tactic(auto)]
 
-use anyhow::anyhow;
+use anyhow::bail;
 use std::env;
 use std::process::ExitCode;
 
@@ -25,7 +25,7 @@ fn run(rt: &HostRuntime) -> anyhow::Result<()> {
     let mut args = env::args(rt)?;
     let _program = args.next();
     let Some(command) = args.next() else {
-        return Err(anyhow!("no command given; `blame help` lists them"));
+        bail!("no command given; `blame help` lists them");
     };
     match command.as_str() {
         "lists" => {
@@ -40,7 +40,7 @@ fn run(rt: &HostRuntime) -> anyhow::Result<()> {
         }
         _ => {
             options::at_most_one(args)?;
-            Err(anyhow!("unknown command; `blame help` lists them"))
+            bail!("unknown command; `blame help` lists them")
         }
     }
 }

@@ -1,5 +1,5 @@
 use crate::asked::one_based;
-use anyhow::anyhow;
+use anyhow::{anyhow, bail};
 use change::refusal::Told;
 use ranges::blame_ranges::BlameRanges;
 use std::env::Args;
@@ -20,20 +20,20 @@ pub fn read(rt: &HostRuntime, args: Args) -> anyhow::Result<Options> {
     let mut lines_next = false;
     for arg in args {
         if lines_next {
-            ask(rt, &mut ranges, arg.as_str())?;
+            ask(&mut ranges, arg.as_str())?;
             lines_next = false;
         } else if arg.as_str() == "-L" {
             lines_next = true;
         } else if let Some(lines) = arg.as_str().strip_prefix("-L") {
-            ask(rt, &mut ranges, lines)?;
+            ask(&mut ranges, lines)?;
         } else if path.is_some() {
-            return Err(anyhow!(TOO_MANY));
+            bail!(TOO_MANY);
         } else {
             path = Some(arg);
         }
     }
     if lines_next {
-        return Err(anyhow!("-L takes lines, as FIRST,LAST"));
+        bail!("-L takes lines, as FIRST,LAST");
     }
     Ok(Options { ranges, path })
 }
@@ -43,23 +43,17 @@ pub fn at_most_one(args: Args) -> anyhow::Result<()> {
     let mut args = args;
     let _argument = args.next();
     if args.next().is_some() {
-        return Err(anyhow!(TOO_MANY));
+        bail!(TOO_MANY);
     }
     Ok(())
 }
 
 // Adds the lines to those asked for, or says why not.
-fn ask(rt: &HostRuntime, ranges: &mut BlameRanges, text: &str) -> anyhow::Result<()> {
+fn ask(ranges: &mut BlameRanges, text: &str) -> anyhow::Result<()> {
     let Some(lines) = one_based(text.as_bytes()) else {
-        return Err(anyhow!(format!(in rt.alloc();
-            "-L takes lines, as FIRST,LAST, and not `{text}`"
-        )?));
+        bail!("-L takes lines, as FIRST,LAST, and not `{text}`");
     };
-    match ranges.add_one_based_inclusive_range(lines) {
-        Ok(()) => Ok(()),
-        Err(fault) => {
-            let fault = Told(fault);
-            Err(anyhow!(format!(in rt.alloc(); "-L {text}: refused: {fault}")?))
-        }
-    }
+    ranges
+        .add_one_based_inclusive_range(lines)
+        .map_err(|fault| anyhow!("-L {text}: refused: {}", Told(fault)))
 }

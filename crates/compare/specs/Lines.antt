@@ -4,8 +4,9 @@ use Rattle.change.specs.declared.change.Change.{Change}
 use Rattle.hunk.specs.declared.source.Source.{Source}
 use Rattle.hunk.specs.declared.row.HunkRow.{HunkRow}
 use Rattle.compare.specs.declared.case.Case.{Case}
-use Rattle.compare.specs.declared.case.CaseFault.{CaseFault}
-use Rattle.compare.specs.declared.case.CaseFault.TheVariants.{Form, OutOfMemory}
+use Rattle.compare.specs.declared.case.NoCase.{NoCase}
+use Rattle.change.specs.declared.unmade.Unmade.{Unmade}
+use Rattle.change.specs.declared.unmade.Unmade.TheVariants.{Refused, OutOfMemory}
 use Rattle.compare.specs.Tokens.{and_then, size_of}
 use Rattle.compare.specs.Items.{more, row_of, change_of, sources_of}
 
@@ -34,6 +35,6 @@ abbrev pub parts_in : Case → Parts
 parts_in c = record { suspect = c.suspect; parent = c.parent; rows = vec_items c.rows; changes = vec_items c.changes; expected = vec_items c.expected }
 
 -- what is read is told so; a fault of form says that nothing can be read
-abbrev pub Fails : {X : Type 0} → Option X → CaseFault → Type 0
-Fails o Form = o ≡ None
+abbrev pub Fails : {X : Type 0} → Option X → Unmade NoCase → Type 0
+Fails o (Refused n) = o ≡ None
 Fails o OutOfMemory = Unit {0}

@@ -2,7 +2,7 @@
 
 #![tactic(auto)]
 
-use anyhow::anyhow;
+use anyhow::bail;
 use std::env;
 use std::process::ExitCode;
 
@@ -20,7 +20,7 @@ fn run(rt: &HostRuntime) -> anyhow::Result<()> {
     let _program = args.next();
     let path = args.next();
     if args.next().is_some() {
-        return Err(anyhow!("too many arguments; usage: compare [FILE]"));
+        bail!("too many arguments; usage: compare [FILE]");
     }
     let text = program::read(rt, path)?;
     report::run(rt, text.as_slice())

@@ -1,8 +1,9 @@
-use crate::case::{Case, CaseFault, read_case};
+use crate::case::{Case, NoCase, read_case};
 use crate::judge::{Verdict, judge};
 use crate::show::Rows;
-use anyhow::anyhow;
+use anyhow::bail;
 use change::refusal::Refusal;
+use change::unmade::Unmade;
 use std::fmt;
 use text::lines::Lines;
 
@@ -20,12 +21,12 @@ impl Tally {
     fn take_line(&mut self, rt: &HostRuntime, number: usize, line: &[u8]) -> anyhow::Result<()> {
         match read_case(rt.alloc(), line) {
             Ok(case) => self.take_case(rt, number, &case),
-            Err(CaseFault::Form) => {
+            Err(Unmade::Refused(NoCase)) => {
                 println!(rt; "line {number}: no case")?;
                 self.no_case = self.no_case.saturating_add(1);
                 Ok(())
             }
-            Err(CaseFault::OutOfMemory) => Err(anyhow!("no memory for a case")),
+            Err(Unmade::OutOfMemory) => bail!("no memory for a case"),
         }
     }
 

@@ -1,4 +1,4 @@
-use crate::case::{CaseFault, read_case};
+use crate::case::read_case;
 use crate::judge::{Verdict, verdict_on};
 use crate::show::Rows;
 use change::change::Change;
