@@ -1,6 +1,5 @@
 ghost use Rattle.rank.specs.Abutting.{starts_after, abuts, spanning};
-ghost use Rattle.std.proofs.Common.{rules};
-ghost use Rattle.rank.specs.Spans.{spanning-three};
+ghost use Rattle.std.proofs.Common.{rules, arith};
 
 use crate::joining::Joining;
 use crate::ranking::Ranked;
@@ -32,7 +31,7 @@ impl Joining for LineRange {
 
     ghost inward = { Prim.search rules };
 
-    ghost one_result = { λ a b c j k. spanning-three a b c };
+    ghost one_result = { Prim.grind (arith, Self.row.coded.inj) };
 
     fn joins_with(&self, other: &LineRange) -> bool {
         self.end() == other.start() && other.end() <= FILE_LIMIT
