@@ -1,8 +1,10 @@
 ghost use Rattle.rank.specs.Abutting.{starts_after, abuts, spanning};
+ghost use Rattle.rank.specs.Touching.{touch};
 ghost use Rattle.std.proofs.Common.{rules, arith};
 
 use crate::joining::Joining;
 use crate::ranking::Ranked;
+use crate::touching::Touching;
 use change::line_range::LineRange;
 use change::list::FILE_LIMIT;
 
@@ -43,5 +45,13 @@ impl Joining for LineRange {
         } else {
             None
         }
+    }
+}
+
+impl Touching for LineRange {
+    ghost touches = { touch };
+
+    fn touches(&self, other: &LineRange) -> bool {
+        other.start() <= self.end() && self.start() <= other.end()
     }
 }
