@@ -91,7 +91,7 @@ fn print_rows(
     let mut summary = summary;
     let clipped = asked.to_zero_based_exclusive_ranges(totals.new);
     for row in rows {
-        for range in clipped.ranges.iter().take(clipped.count) {
+        for range in clipped.iter() {
             if let Some(part) = part(*row, *range) {
                 println!(rt; "  {part}")?;
                 if !asked.is_whole_file() {

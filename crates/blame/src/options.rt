@@ -55,7 +55,7 @@ fn ask(rt: &HostRuntime, ranges: &mut BlameRanges, text: &str) -> anyhow::Result
             "-L takes lines, as FIRST,LAST, and not `{text}`"
         )?));
     };
-    match ranges.add_one_based_inclusive_range(lines.first, lines.last) {
+    match ranges.add_one_based_inclusive_range(lines) {
         Ok(()) => Ok(()),
         Err(fault) => {
             let number = fault.number();
