@@ -1,8 +1,9 @@
 -- The rows as plain ranges, one more at a time.
-use Rattle.std.proofs.Common.{◌≡◌, ℕ, ◌+◌, ◌<◌, ◌≤◌, true, false, cond, List, [], ◌∷◌, ◌++◌, map, length, get_or, take, Some, None, fold, filter, sym, ap, ◌∙◌, inl, inr, arith}
-use Rattle.std.proofs.lemmas.List.{append-nil, get_or-map, length-map, map-append, take_all, take_more}
+use Rattle.std.proofs.Common.{◌≡◌, ℕ, ◌+◌, ◌<◌, false, cond, List, [], ◌∷◌, ◌++◌, map, length, get_or, take, Some, None, fold, filter, sym, ap, ◌∙◌, inl, inr, arith}
+use Rattle.std.proofs.lemmas.List.{append-nil, get_or-map, length-map, map-append, take_more}
 use Rattle.std.proofs.lemmas.List.Elements.{filter-append}
 use Rattle.std.proofs.lemmas.List.Sums.{fold_push}
+use Rattle.std.proofs.lemmas.Option.{cond_some, none-some}
 use Rattle.std.proofs.lemmas.Bool.{cases_Bool, cond-true, cond-false}
 use Rattle.change.specs.declared.span.Span.{Span}
 use Rattle.change.specs.declared.line_range.LineRange.{LineRange}
@@ -14,9 +15,6 @@ module _ (rows : List LineRange) (i : ℕ) where
   spans-more x h e =
       let n = length-map rows span_of in
       take_more (spans rows) i blank (omega arith) ∙ ap (λ s. take i (spans rows) ++ s ∷ []) (get_or-map span_of rows i x blank h ∙ ap span_of (sym e))
-
-  pub spans_all : length rows ≤ i → take i (spans rows) ≡ spans rows
-  spans_all h = let n = length-map rows span_of in take_all i (spans rows) (omega arith)
 
 -- widened over one more
 merged-push : (n : Span) (rs : List Span) (x : Span) → merged n (rs ++ x ∷ []) ≡ cond (touches n x) (hull (merged n rs) x) (merged n rs)
@@ -42,17 +40,10 @@ cut-push n rs x =
       | inr e ↦ rw e (ap (map (cut n)) (append-nil (filter (begins n) rs)))
     ])
 
-some-cut : (n : ℕ) (x y : Span) → Some y ≡ cut_of n x → (begins n x ≡ true) × (y ≡ cut n x)
-some-cut n x y e =
-    elim (cases_Bool (begins n x)) [
-      | inl b ↦ (b, (let r = rw b at e in cc))
-      | inr b ↦ let z : ◌≡◌ {A = ℕ} 0 1 = (let r = rw b at e in cc) in absurd (omega arith)
-    ]
-
 no_cut : (n : ℕ) (x : Span) → None ≡ cut_of n x → begins n x ≡ false
 no_cut n x e =
     elim (cases_Bool (begins n x)) [
-      | inl b ↦ let z : ◌≡◌ {A = ℕ} 0 1 = (let r = rw b at e in cc) in absurd (omega arith)
+      | inl b ↦ absurd (none-some _ (rw b at e))
       | inr b ↦ b
     ]
 
@@ -62,8 +53,8 @@ module _ (n : ℕ) (rows : List LineRange) (i : ℕ) (x : LineRange) (here : i <
 
   pub cut-some : (y : Span) → Some y ≡ cut_of n (span_of x) → cut_all n (take (i + 1) (spans rows)) ≡ cut_all n (take i (spans rows)) ++ y ∷ []
   cut-some y e =
-      let c = some-cut n (span_of x) y e in
-      cut-more ∙ cond-true _ _ _ c.0 ∙ ap (λ z. cut_all n (take i (spans rows)) ++ z ∷ []) (sym c.1)
+      let c = cond_some _ _ _ (sym e) in
+      cut-more ∙ cond-true _ _ _ c.0 ∙ ap (λ z. cut_all n (take i (spans rows)) ++ z ∷ []) c.1
 
   pub cut-none : None ≡ cut_of n (span_of x) → cut_all n (take (i + 1) (spans rows)) ≡ cut_all n (take i (spans rows))
   cut-none e = cut-more ∙ cond-false _ _ _ (no_cut n (span_of x) e)

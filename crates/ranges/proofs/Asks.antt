@@ -1,16 +1,13 @@
 -- The lines that are asked with one more range merged in: its own, and those of the ranges before.
 use Rattle.std.proofs.Common.{◌≡◌, ℕ, Bool, true, false, ◌||◌, List, [], ◌∷◌, fold, filter, refl, ap, ◌∙◌, inl, inr, arith}
 use Rattle.std.specs.List.{AllByRecursion}
+use Rattle.std.proofs.Math.Bool.{or_assoc}
 use Rattle.std.proofs.lemmas.Bool.{cases_Bool}
 use Rattle.std.proofs.lemmas.Bool.Decides.{nat_tests}
 use Rattle.change.specs.declared.span.Span.{Span}
 use Rattle.rank.specs.Ranks.{put}
 use Rattle.ranges.specs.Spans.{has, any_has, whole, touches, is_apart, hull, merged, others, later, merged_in}
 use Rattle.ranges.proofs.Merges.{Some-line, Meet, Over, meet-from, hull-over}
-
-pub or_assoc : (a b c : Bool) → ((a || b) || c) ≡ (a || (b || c))
-or_assoc true b c = refl
-or_assoc false b c = refl
 
 pub or_swap : (a b c : Bool) → (a || (b || c)) ≡ (b || (a || c))
 or_swap true true c = refl

@@ -1,15 +1,13 @@
 -- Ranges cut to a line count: the lines below it, still in order and apart.
-use Rattle.std.proofs.Common.{◌≡◌, ℕ, ◌-◌, ◌≤◌, Bool, true, false, ◌&&◌, ◌||◌, ltb, List, [], ◌∷◌, length, replicate, filter, sym, refl, ap, ◌∙◌, subst, inl, inr, arith}
+use Rattle.std.proofs.Common.{◌≡◌, ℕ, ◌≤◌, true, false, ◌&&◌, ◌||◌, ltb, List, [], ◌∷◌, filter, sym, refl, ap, ◌∙◌, inl, inr, arith}
 use Rattle.std.specs.List.{AllByRecursion}
-use Rattle.std.proofs.lemmas.List.{take_at}
 use Rattle.std.proofs.ByRecursion.{All-get_or, All-map, all_kept_by, All-weaker}
+use Rattle.std.proofs.Math.Bool.{and-or_distrib_right}
 use Rattle.std.proofs.lemmas.Bool.{both_ways, cases_Bool, ltb-true}
 use Rattle.std.proofs.lemmas.Bool.Decides.{nat_tests}
 use Rattle.change.specs.declared.span.Span.{Span}
 use Rattle.ranges.specs.Spans.{blank, has, any_has, whole, asked}
 use Rattle.ranges.specs.Clips.{begins, cut, cut_all, all_of, clip_of, Within}
-use Rattle.ranges.specs.declared.clipped.Clipped.{Clipped}
-use Rattle.ranges.specs.Rows.{laid, in_use}
 use Rattle.ranges.proofs.Parts.{Before, Parted, lines_of, apart_of}
 
 cut-one : (n k : ℕ) (r : Span) → has (cut n r) k ≡ (has r k && ltb k n)
@@ -18,18 +16,12 @@ cut-one n k r = grind (arith, nat_tests)
 past_one : (n k : ℕ) (r : Span) → begins n r ≡ false → (has r k && ltb k n) ≡ false
 past_one n k r e = grind (arith, nat_tests)
 
-and-over : (a b c : Bool) → ((a && c) || (b && c)) ≡ ((a || b) && c)
-and-over true b true = refl
-and-over true true false = refl
-and-over true false false = refl
-and-over false b c = refl
-
 cut_has : (n k : ℕ) (rs : List Span) → any_has (cut_all n rs) k ≡ (any_has rs k && ltb k n)
 cut_has n k [] = refl
 cut_has n k (r ∷ rs) =
     elim (cases_Bool (begins n r)) [
-      | inl e ↦ rw e (ap (λ b. b || any_has (cut_all n rs) k) (cut-one n k r) ∙ ap (λ b. (has r k && ltb k n) || b) (cut_has n k rs) ∙ and-over (has r k) (any_has rs k) (ltb k n))
-      | inr e ↦ rw e (cut_has n k rs ∙ ap (λ b. b || (any_has rs k && ltb k n)) (sym (past_one n k r e)) ∙ and-over (has r k) (any_has rs k) (ltb k n))
+      | inl e ↦ rw e (ap (λ b. b || any_has (cut_all n rs) k) (cut-one n k r) ∙ ap (λ b. (has r k && ltb k n) || b) (cut_has n k rs) ∙ sym (and-or_distrib_right (has r k) (any_has rs k) (ltb k n)))
+      | inr e ↦ rw e (cut_has n k rs ∙ ap (λ b. b || (any_has rs k && ltb k n)) (sym (past_one n k r e)) ∙ sym (and-or_distrib_right (has r k) (any_has rs k) (ltb k n)))
     ]
 
 all-has : (n k : ℕ) → any_has (all_of n) k ≡ ltb k n
@@ -69,28 +61,6 @@ clip-within n [] p =
     ]
 clip-within n (r ∷ rs) p = within n (cut_all n (r ∷ rs)) (cut-parted n (r ∷ rs) p) (cut-ends n (r ∷ rs))
 
-pub in_use_lem : (rs : List Span) → in_use (laid rs) ≡ rs
-in_use_lem rs = take_at rs (replicate (64 - length rs) blank) (length rs) refl
-
-pub clip-whole : (n : ℕ) (rs : List Span) → true ≡ whole rs → clip_of n rs ≡ all_of n
-clip-whole n [] e = refl
-clip-whole n (r ∷ rs) e = absurd (both_ways true e refl)
-
 pub clip-some : (n : ℕ) (rs : List Span) → false ≡ whole rs → clip_of n rs ≡ cut_all n rs
 clip-some n [] e = absurd (both_ways true (sym e) refl)
 clip-some n (r ∷ rs) e = refl
-
--- what is told of ranges that are laid out so
-pub record Told (n : ℕ) (rs : List Span) (c : Clipped) : Type 0 where
-  pub is : c ≡ laid (clip_of n rs)
-  pub lines : (k : ℕ) → any_has (in_use c) k ≡ (asked rs k && ltb k n)
-  pub inside : Within n (in_use c)
-
-pub told : (n : ℕ) (rs : List Span) (c : Clipped) → Parted rs → c ≡ laid (clip_of n rs) → Told n rs c
-told n rs c p e =
-    let u : in_use c ≡ clip_of n rs = ap in_use e ∙ in_use_lem (clip_of n rs) in
-    record {
-      is = e;
-      lines = λ k. ap (λ l. any_has l k) u ∙ clip-has n k rs;
-      inside = subst (Within n) (sym u) (clip-within n rs p);
-    }

@@ -1,36 +1,14 @@
 -- A list of ranges added in turn.
-use Rattle.std.proofs.Common.{◌≡◌, ℕ, ◌+◌, ◌<◌, ◌≤◌, false, ◌||◌, List, [], ◌∷◌, length, get_or, drop, IfOk, Ok, Err, Result, sym, refl, ap, ◌∙◌, arith}
-use Rattle.std.proofs.lemmas.List.{at_drop_more, at_drop_all}
+use Rattle.std.proofs.Common.{◌≡◌, ℕ, ◌+◌, false, ◌||◌, List, [], ◌∷◌, Ok, Err, Result, sym, refl, ap, ◌∙◌, arith}
+use Rattle.std.proofs.Math.Bool.{or_assoc}
 use Rattle.change.specs.declared.span.Span.{Span}
 use Rattle.ranges.specs.declared.one_based.OneBased.{OneBased}
 use Rattle.ranges.specs.declared.fault.RangeFault.{RangeFault}
-use Rattle.ranges.specs.declared.fault.BadEntry.{BadEntry}
 use Rattle.ranges.specs.Spans.{has, any_has, whole, asked}
-use Rattle.ranges.specs.Adds.{zero_based, add_of, answer_of, then_of, go_on, add_all_from, add_all_of, list_has, AllAskedToo}
+use Rattle.ranges.specs.Adds.{zero_based, add_of, go_on, add_all_from, add_all_of, list_has, AllAskedToo}
 use Rattle.ranges.proofs.Parts.{Parted}
-use Rattle.ranges.proofs.More.{answered-err, answered-ok, grown, only}
-use Rattle.ranges.proofs.Asks.{or_assoc, or_swap}
-
-abbrev pub none : OneBased
-none = record { first = 0; last = 0 }
-
-module _ (list : List OneBased) (i : ℕ) (rs : List Span) (here : i < length list) where
-  abbrev next : Result (List Span) RangeFault
-  next = add_of rs (get_or list i none).first (get_or list i none).last
-
-  step : add_all_from i rs (drop i list) ≡ go_on i next (λ more. add_all_from (i + 1) more (drop (i + 1) list))
-  step = at_drop_more (add_all_from i rs) list i none here
-
-  pub all-stops : (f : RangeFault) → Err f ≡ answer_of next → add_all_from i rs (drop i list) ≡ Err (record { position = i; fault = f })
-  all-stops f e = step ∙ ap (λ o. go_on i o (λ more. add_all_from (i + 1) more (drop (i + 1) list))) (answered-err next f e)
-
-  pub all-goes : (behind : List Span) → Ok tt ≡ answer_of next → behind ≡ then_of rs next → add_all_from i rs (drop i list) ≡ add_all_from (i + 1) behind (drop (i + 1) list)
-  all-goes behind e h =
-      step ∙ ap (λ o. go_on i o (λ more. add_all_from (i + 1) more (drop (i + 1) list))) (answered-ok next rs e)
-      ∙ ap (λ more. add_all_from (i + 1) more (drop (i + 1) list)) (sym h)
-
-pub all_done : (list : List OneBased) (i : ℕ) (rs : List Span) → length list ≤ i → add_all_from i rs (drop i list) ≡ Ok rs
-all_done list i rs h = at_drop_all (add_all_from i rs) list i h
+use Rattle.ranges.proofs.More.{grown, only}
+use Rattle.ranges.proofs.Asks.{or_swap}
 
 -- the ranges with each of a list, where none is refused
 record AllGrown (rs : List Span) (list : List OneBased) (behind : List Span) : Type 0 where
@@ -64,28 +42,8 @@ all_grown (a ∷ list) i rs behind p e =
     let g = one-grown a list i rs behind p (λ more q h. all_grown list (i + 1) more behind q h) (add_of rs a.first a.last) refl e in
     record { some = λ _. g.some; asks = g.asks }
 
-all-asks : (list : List OneBased) (rs behind : List Span) → Parted rs → add_all_of rs list ≡ Ok behind → AllAskedToo rs list behind
+pub all-asks : (list : List OneBased) (rs behind : List Span) → Parted rs → add_all_of rs list ≡ Ok behind → AllAskedToo rs list behind
 all-asks [] rs behind p e = let same : rs ≡ behind = cc in λ k. ap (λ m. asked m k) (sym same)
 all-asks (a ∷ list) rs behind p e =
     let g = one-grown a list 0 rs behind p (λ more q h. all_grown list 1 more behind q h) (add_of rs a.first a.last) refl e in
     λ k. ap (λ w. w || any_has behind k) g.some ∙ g.asks k ∙ ap (λ b. list_has (a ∷ list) k || b) (only rs k)
-
--- what is told of ranges with those of a list
-pub record Told (rs : List Span) (list : List OneBased) (r : Result (Unit {0}) BadEntry) (behind : List Span) : Type 0 where
-  pub answer : r ≡ answer_of (add_all_of rs list)
-  pub ranges : behind ≡ then_of rs (add_all_of rs list)
-  pub lines : IfOk r (λ _. AllAskedToo rs list behind)
-
-pub told-ok : (rs : List Span) (list : List OneBased) (behind : List Span) → Parted rs → add_all_of rs list ≡ Ok behind → Told rs list (Ok tt) behind
-told-ok rs list behind p e = record {
-  answer = sym (ap answer_of e);
-  ranges = sym (ap (then_of rs) e);
-  lines = all-asks list rs behind p e;
-}
-
-pub told-err : (rs : List Span) (list : List OneBased) (f : BadEntry) (behind : List Span) → add_all_of rs list ≡ Err f → behind ≡ rs → Told rs list (Err f) behind
-told-err rs list f behind e h = record {
-  answer = sym (ap answer_of e);
-  ranges = h ∙ sym (ap (then_of rs) e);
-  lines = tt;
-}

@@ -6,7 +6,7 @@ use Rattle.change.specs.declared.span.Span.{Span}
 use Rattle.change.specs.declared.line_range.LineRange.{LineRange}
 use Rattle.ranges.specs.declared.fault.RangeFault.{RangeFault}
 use Rattle.ranges.specs.Spans.{spans, has, any_has, whole, others, merged_in, Apart}
-use Rattle.ranges.specs.Adds.{zero_based, zero_based_of, merge_any, add_of, answer_of, then_of, asked_only, AskedToo}
+use Rattle.ranges.specs.Adds.{zero_based, merge_of, add_of, answer_of, then_of, asked_only, AskedToo}
 use Rattle.ranges.proofs.Parts.{Parted, parted, lines_from}
 use Rattle.ranges.proofs.Merges.{Some-line, all_lines, merged-parted}
 use Rattle.ranges.proofs.Asks.{merged-has, merged_some}
@@ -20,10 +20,6 @@ pub rows-parted : (rows : List LineRange) → Apart (spans rows) → Parted (spa
 rows-parted rows a = parted (spans rows) (lines_from (spans rows) (rows-lines rows)) a
 
 -- what an answer says of the ranges
-pub answered-err : (o : Result (List Span) RangeFault) (f : RangeFault) → Err f ≡ answer_of o → o ≡ Err f
-answered-err (Ok rs) f e = let z : ◌≡◌ {A = ℕ} 0 1 = cc in absurd (omega arith)
-answered-err (Err g) f e = let p : g ≡ f = cc in ap Err p
-
 pub answered-ok : (o : Result (List Span) RangeFault) (rs : List Span) → Ok tt ≡ answer_of o → o ≡ Ok (then_of rs o)
 answered-ok (Ok new) rs e = refl
 answered-ok (Err g) rs e = let z : ◌≡◌ {A = ℕ} 0 1 = cc in absurd (omega arith)
@@ -60,32 +56,13 @@ pub only : (rs : List Span) (k : ℕ) → any_has rs k ≡ asked_only rs k
 only [] k = refl
 only (r ∷ rs) k = refl
 
--- what is told of ranges with lines s to e, and that they are in order and apart
-pub record Told (rs : List Span) (s e : ℕ) (r : Result (Unit {0}) RangeFault) (behind : List Span) : Type 0 where
-  pub answer : r ≡ answer_of (add_of rs s e)
-  pub ranges : behind ≡ then_of rs (add_of rs s e)
-  pub lines : IfOk r (λ _. AskedToo rs s e behind)
-  pub order : Parted behind
-
-add-asks : (rs : List Span) (s e : ℕ) (r : Result (Unit {0}) RangeFault) (behind : List Span) → Parted rs → r ≡ answer_of (add_of rs s e) → behind ≡ then_of rs (add_of rs s e)
+pub add-asks : (rs : List Span) (s e : ℕ) (r : Result (Unit {0}) RangeFault) (behind : List Span) → Parted rs → r ≡ answer_of (add_of rs s e) → behind ≡ then_of rs (add_of rs s e)
     → IfOk r (λ _. AskedToo rs s e behind)
 add-asks rs s e (Ok t) behind p a h =
     let g = grown rs s e behind p (answered-ok (add_of rs s e) rs a ∙ ap Ok (sym h)) in
     λ k. ap (λ w. w || any_has behind k) g.some ∙ g.asks k ∙ ap (λ b. has (zero_based s e) k || b) (only rs k)
 add-asks rs s e (Err f) behind p a h = tt
 
-add-parted : (rs : List Span) (s e : ℕ) (o : Result (List Span) RangeFault) → Parted rs → add_of rs s e ≡ o → Parted (then_of rs o)
-add-parted rs s e (Ok more) p q = (grown rs s e more p q).order
-add-parted rs s e (Err f) p q = p
-
-pub told : (rs : List Span) (s e : ℕ) (r : Result (Unit {0}) RangeFault) (behind : List Span) (n : Result Span RangeFault) → Parted rs → n ≡ zero_based_of s e
-    → r ≡ answer_of (merge_any n rs) → behind ≡ then_of rs (merge_any n rs) → Told rs s e r behind
-told rs s e r behind n p q a h =
-    let answer = a ∙ ap (λ m. answer_of (merge_any m rs)) q in
-    let ranges = h ∙ ap (λ m. then_of rs (merge_any m rs)) q in
-    record {
-      answer = answer;
-      ranges = ranges;
-      lines = add-asks rs s e r behind p answer ranges;
-      order = subst Parted (sym ranges) (add-parted rs s e (add_of rs s e) p refl);
-    }
+-- a range merged in, or refused
+pub merge-parted : (n : Span) (rs : List Span) → Some-line n → Parted rs → Parted (then_of rs (merge_of n rs))
+merge-parted n rs l p = elim (cases_Bool (ltb (length (others n rs)) 64)) [ inl e ↦ rw e (merged-parted n rs l p) | inr e ↦ rw e p ]

@@ -2,13 +2,17 @@
 use Rattle.std.specs.Prelude.{◌≡◌, List, Ok, Err, Result}
 use Rattle.change.specs.declared.span.Span.{Span}
 use Rattle.rank.specs.Tables.{items_of}
+use Rattle.ranges.specs.declared.rows.Rows.{Rows}
 use Rattle.ranges.specs.declared.blame_ranges.BlameRanges.{BlameRanges}
-use Rattle.ranges.specs.declared.fault.Unmade.{Unmade}
-use Rattle.ranges.specs.declared.fault.Unmade.TheVariants.{Refused, OutOfMemory}
+use Rattle.change.specs.declared.unmade.Unmade.{Unmade}
+use Rattle.change.specs.declared.unmade.Unmade.TheVariants.{Refused, OutOfMemory}
 use Rattle.ranges.specs.Spans.{spans}
 
+abbrev pub rows_of : Rows → List Span
+rows_of r = spans (items_of r.table)
+
 abbrev pub ranges_of : BlameRanges → List Span
-ranges_of b = spans (items_of b.ranges)
+ranges_of b = rows_of b.ranges
 
 -- these ranges are made, or refused, unless there is no memory
 abbrev pub Made : {E : Type 0} → Result (List Span) E → Result BlameRanges (Unmade E) → Type 0

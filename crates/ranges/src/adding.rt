@@ -1,60 +1,99 @@
-ghost use Rattle.std.specs.Prelude.{◌≡◌, OnOk};
-ghost use Rattle.rank.specs.Tables.{items_of};
+ghost use Rattle.std.specs.Prelude.{◌≡◌, ◌≤◌, [], length, Ok, IfOk, OnOk};
+ghost use Rattle.rank.specs.Tables.{with_items};
 ghost use Rattle.ranges.specs.Spans.{span_of, spans};
 ghost use Rattle.ranges.specs.Adds.{plain_of, zero_based_of, merge_of, add_of, answer_of, then_of, AskedToo, add_all_of, AllAskedToo};
-ghost use Rattle.ranges.specs.Ranges.{ranges_of};
+ghost use Rattle.ranges.specs.Ranges.{rows_of, ranges_of};
 
 use crate::blame_ranges::BlameRanges;
 use crate::fault::{BadEntry, RangeFault};
-use crate::holding::{copy, refill};
-use crate::merging::{apart, widen};
+use crate::merging::widen;
 use crate::one_based::OneBased;
+use crate::rows::Rows;
 use change::line_range::LineRange;
 use rank::insertion::insert;
 use rank::table::Table;
+use rank::touching::drop_touched;
+use std::alloc::{AllocError, Global};
+use std::mem::swap;
 
-// Lines `first` to `last`, counted from one and the last included, as a range.
-fn inclusive_to_zero_based_exclusive(first: u32, last: u32) -> Result<LineRange, RangeFault>
-    ensures { plain_of result ≡ zero_based_of first last }
+// The lines as a range.
+fn inclusive_to_zero_based_exclusive(lines: OneBased) -> Result<LineRange, RangeFault>
+    ensures { plain_of result ≡ zero_based_of lines.first lines.last }
 {
-    if first == 0 {
+    let Some(start) = lines.first.checked_sub(1) else {
         return Err(RangeFault::ZeroLine);
-    }
-    match LineRange::new(first - 1, last) {
-        Some(range) => Ok(range),
-        None => Err(RangeFault::EmptyRange),
+    };
+    LineRange::new(start, lines.last).ok_or(RangeFault::EmptyRange)
+}
+
+// Puts these rows in place of the table's.
+fn refill(table: &mut Table<LineRange>, rows: &[LineRange])
+    requires { length rows.now ≤ table.old.limit }
+    ensures { table.new ≡ with_items table.old rows.now }
+{
+    table.clear();
+    for row in rows {
+        let _ = table.push(*row);
     }
 }
 
-// Merges the range with all rows that it touches. Where there is no room for it,
-// it touches none, so all rows are still there.
-fn merge(table: &mut Table<LineRange>, range: LineRange) -> Result<(), RangeFault>
-    requires { table.old.limit ≡ 64 }
-    ensures answer { result ≡ answer_of (merge_of (span_of range) (spans (items_of table.old))) }
-    ensures rows { spans (items_of table.new) ≡ then_of (spans (items_of table.old)) (merge_of (span_of range) (spans (items_of table.old))) }
-    ensures limit { table.new.limit ≡ 64 }
-{
-    let wide = widen(range, table.as_slice());
-    let others = apart(range, table.as_slice());
-    refill(table, &others.rows[0..others.count]);
-    match insert(table, wide) {
-        Ok(()) => Ok(()),
-        Err(_) => Err(RangeFault::RangesFull),
+impl Rows {
+    // None, with room for 64.
+    pub fn new(heap: Global) -> Result<Rows, AllocError>
+        ensures { IfOk result (λ r. rows_of r ≡ []) }
+    {
+        let table = Table::new(heap, 64)?;
+        Ok(Rows { table })
+    }
+
+    // Merges the range with all rows that it touches. Where there is no room for
+    // it, it touches none, so all rows are still there.
+    fn merge(&mut self, range: LineRange) -> Result<(), RangeFault>
+        ensures answer { result ≡ answer_of (merge_of (span_of range) (rows_of self.old)) }
+        ensures rows { rows_of self.new ≡ then_of (rows_of self.old) (merge_of (span_of range) (rows_of self.old)) }
+    {
+        let wide = widen(range, self.table.as_slice());
+        drop_touched(&mut self.table, &range);
+        insert(&mut self.table, wide).map_err(|_| RangeFault::RangesFull)
+    }
+
+    pub fn add(&mut self, lines: OneBased) -> Result<(), RangeFault>
+        ensures answer { result ≡ answer_of (add_of (rows_of self.old) lines.first lines.last) }
+        ensures rows { rows_of self.new ≡ then_of (rows_of self.old) (add_of (rows_of self.old) lines.first lines.last) }
+    {
+        let range = inclusive_to_zero_based_exclusive(lines)?;
+        self.merge(range)
+    }
+
+    // Adds each of the list in turn, up to the first that is refused.
+    pub fn add_all(&mut self, list: &[OneBased]) -> Result<(), BadEntry>
+        ensures answer { result ≡ answer_of (add_all_of (rows_of self.old) list.now) }
+        ensures rows { OnOk result (add_all_of (rows_of self.old) list.now ≡ Ok (rows_of self.new)) }
+    {
+        for (position, lines) in list.iter().enumerate() {
+            if let Err(fault) = self.add(*lines) {
+                return Err(BadEntry { position, fault });
+            }
+        }
+        Ok(())
+    }
+
+    pub fn copy_from(&mut self, other: &Rows)
+        ensures { rows_of self.new ≡ rows_of other.now }
+    {
+        refill(&mut self.table, other.table.as_slice());
     }
 }
 
 impl BlameRanges {
-    // Adds lines `first` to `last`, counted from one and the last included. They
-    // take the place of the whole file, or merge with all ranges that they touch.
-    pub fn add_one_based_inclusive_range(&mut self, first: u32, last: u32) -> Result<(), RangeFault>
-        ensures answer { result ≡ answer_of (add_of (ranges_of self.old) first last) }
-        ensures ranges { ranges_of self.new ≡ then_of (ranges_of self.old) (add_of (ranges_of self.old) first last) }
-        ensures lines { OnOk result (AskedToo (ranges_of self.old) first last (ranges_of self.new)) }
+    // Adds lines that take the place of the whole file, or merge with all ranges
+    // that they touch.
+    pub fn add_one_based_inclusive_range(&mut self, lines: OneBased) -> Result<(), RangeFault>
+        ensures answer { result ≡ answer_of (add_of (ranges_of self.old) lines.first lines.last) }
+        ensures ranges { ranges_of self.new ≡ then_of (ranges_of self.old) (add_of (ranges_of self.old) lines.first lines.last) }
+        ensures lines { OnOk result (AskedToo (ranges_of self.old) lines.first lines.last (ranges_of self.new)) }
     {
-        match inclusive_to_zero_based_exclusive(first, last) {
-            Ok(range) => merge(&mut self.ranges, range),
-            Err(fault) => Err(fault),
-        }
+        self.ranges.add(lines)
     }
 
     // Adds each of the list in turn. The first that is refused refuses the list,
@@ -64,14 +103,9 @@ impl BlameRanges {
         ensures ranges { ranges_of self.new ≡ then_of (ranges_of self.old) (add_all_of (ranges_of self.old) list.now) }
         ensures lines { OnOk result (AllAskedToo (ranges_of self.old) list.now (ranges_of self.new)) }
     {
-        let before = copy(self.ranges.as_slice());
-        for position in 0..list.len() {
-            let lines = list[position];
-            if let Err(fault) = self.add_one_based_inclusive_range(lines.first, lines.last) {
-                refill(&mut self.ranges, &before.rows[0..before.count]);
-                return Err(BadEntry { position, fault });
-            }
-        }
+        self.spare.copy_from(&self.ranges);
+        self.spare.add_all(list)?;
+        swap(&mut self.ranges, &mut self.spare);
         Ok(())
     }
 }

@@ -1,15 +1,11 @@
-ghost use Rattle.std.specs.Prelude.{◌≡◌};
-ghost use Rattle.rank.specs.Tables.{items_of};
-ghost use Rattle.ranges.specs.Spans.{spans, Apart};
+use crate::rows::Rows;
 
-use change::line_range::LineRange;
-use rank::table::Table;
-
-// The lines that are asked: those of at most 64 ranges, in order and a line or
-// more apart, or the whole file where there is no range.
+// The lines that are asked: those of the ranges, or the whole file where there is
+// none. (No enum of the two: the whole file, too, keeps the room for 64 ranges that
+// was reserved for it.) A list is added to the spare rows, which take the place of
+// the ranges if none of it is refused.
 #[derive(Drop)]
 pub struct BlameRanges {
-    pub(crate) ranges: Table<LineRange>,
-    ghost limit: { ranges.limit ≡ 64 },
-    ghost apart: { Apart (spans (items_of ranges)) },
+    pub(crate) ranges: Rows,
+    pub(crate) spare: Rows,
 }

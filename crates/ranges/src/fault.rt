@@ -1,9 +1,9 @@
 ghost use Rattle.std.specs.Prelude.{◌≡◌};
-ghost use Rattle.ranges.specs.Faults.{number_of, name_of, or_memory_number, or_memory_name};
-ghost use Rattle.ranges.specs.declared.fault.Unmade.TheVariants.{OutOfMemory as Memory};
+ghost use Rattle.ranges.specs.Faults.{number_of, name_of};
+ghost use Rattle.change.specs.declared.unmade.Unmade.TheVariants.{Refused};
 
 use change::refusal::Refusal;
-use std::alloc::AllocError;
+use change::unmade::Unmade;
 
 // Why a range is not added.
 #[derive(Clone, Copy, Debug, PartialEq, Eq)]
@@ -21,13 +21,6 @@ pub enum RangeFault {
 pub struct BadEntry {
     pub position: usize,
     pub fault: RangeFault,
-}
-
-// Why no ranges were made: they are refused, or there is no memory for any.
-#[derive(Clone, Copy, Debug, PartialEq, Eq)]
-pub enum Unmade<E> {
-    Refused(E),
-    OutOfMemory,
 }
 
 impl Refusal for RangeFault {
@@ -66,30 +59,18 @@ impl Refusal for BadEntry {
     }
 }
 
-impl<E: Refusal> Refusal for Unmade<E> {
-    ghost number = { or_memory_number E.Refusal.number };
+impl From<RangeFault> for Unmade<RangeFault> {
+    ghost from_gives = { λ e r. r ≡ Refused e };
 
-    ghost called = { or_memory_name E.Refusal.called };
-
-    fn number(&self) -> u8 {
-        match self {
-            Unmade::Refused(fault) => fault.number(),
-            Unmade::OutOfMemory => 255,
-        }
-    }
-
-    fn name(&self) -> &'static str {
-        match self {
-            Unmade::Refused(fault) => fault.name(),
-            Unmade::OutOfMemory => "OutOfMemory",
-        }
+    fn from(e: RangeFault) -> Unmade<RangeFault> {
+        Unmade::Refused(e)
     }
 }
 
-impl<E> From<AllocError> for Unmade<E> {
-    ghost from_gives = { λ _ r. r ≡ Memory };
+impl From<BadEntry> for Unmade<BadEntry> {
+    ghost from_gives = { λ e r. r ≡ Refused e };
 
-    fn from(_e: AllocError) -> Unmade<E> {
-        Unmade::OutOfMemory
+    fn from(e: BadEntry) -> Unmade<BadEntry> {
+        Unmade::Refused(e)
     }
 }

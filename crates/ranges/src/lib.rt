@@ -5,14 +5,12 @@
 
 mod adding;
 pub mod blame_ranges;
-pub mod clipped;
 mod clipping;
 pub mod fault;
-mod held;
-mod holding;
 mod making;
 mod merging;
 pub mod one_based;
 mod reading;
+mod rows;
 #[cfg(test)]
 mod tests;

@@ -3,9 +3,10 @@ ghost use Rattle.ranges.specs.Adds.{add_of, add_all_of, AskedToo, AllAskedToo};
 ghost use Rattle.ranges.specs.Ranges.{ranges_of, Made};
 
 use crate::blame_ranges::BlameRanges;
-use crate::fault::{BadEntry, RangeFault, Unmade};
+use crate::fault::{BadEntry, RangeFault};
 use crate::one_based::OneBased;
-use rank::table::Table;
+use crate::rows::Rows;
+use change::unmade::Unmade;
 use std::alloc::{AllocError, Global};
 
 impl BlameRanges {
@@ -13,24 +14,22 @@ impl BlameRanges {
     pub fn whole_file(heap: Global) -> Result<BlameRanges, AllocError>
         ensures { IfOk result (λ b. ranges_of b ≡ []) }
     {
-        let ranges = Table::new(heap, 64)?;
-        Ok(BlameRanges { ranges })
+        let ranges = Rows::new(heap)?;
+        let spare = Rows::new(heap)?;
+        Ok(BlameRanges { ranges, spare })
     }
 
-    // Lines `first` to `last`, counted from one and the last included.
+    // The lines alone.
     pub fn from_one_based_inclusive_range(
         heap: Global,
-        first: u32,
-        last: u32,
+        lines: OneBased,
     ) -> Result<BlameRanges, Unmade<RangeFault>>
-        ensures is { Made (add_of [] first last) result }
-        ensures lines { IfOk result (λ b. AskedToo [] first last (ranges_of b)) }
+        ensures is { Made (add_of [] lines.first lines.last) result }
+        ensures lines { IfOk result (λ b. AskedToo [] lines.first lines.last (ranges_of b)) }
     {
         let mut ranges = BlameRanges::whole_file(heap)?;
-        match ranges.add_one_based_inclusive_range(first, last) {
-            Ok(()) => Ok(ranges),
-            Err(fault) => Err(Unmade::Refused(fault)),
-        }
+        ranges.add_one_based_inclusive_range(lines)?;
+        Ok(ranges)
     }
 
     // Those of a list; the whole file of a list of none.
@@ -42,9 +41,7 @@ impl BlameRanges {
         ensures lines { IfOk result (λ b. AllAskedToo [] list.now (ranges_of b)) }
     {
         let mut ranges = BlameRanges::whole_file(heap)?;
-        match ranges.add_one_based_inclusive_ranges(list) {
-            Ok(()) => Ok(ranges),
-            Err(fault) => Err(Unmade::Refused(fault)),
-        }
+        ranges.add_one_based_inclusive_ranges(list)?;
+        Ok(ranges)
     }
 }

@@ -1,4 +1,5 @@
-pub mod Offers
 pub mod Putting
 pub mod Neighbours
-pub mod Along
+pub mod Deduped
+pub mod Made
+pub mod Laws

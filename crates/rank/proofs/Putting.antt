@@ -1,28 +1,26 @@
 -- Where an element is put, and that what is in order stays so.
-use Rattle.std.proofs.Common.{◌≡◌, ℕ, suc, ◌+◌, ◌<◌, ◌≤◌, Bool, true, false, cond, List, [], ◌∷◌, ◌++◌, length, get_or, take, drop, sym, refl, ap, ◌∙◌, suc-le-suc, zero-le}
-use Rattle.std.specs.List.{insert, AllByRecursion}
-use Rattle.std.proofs.lemmas.List.{at_drop_more}
-use Rattle.std.proofs.lemmas.Bool.{cond_both, cond-true, cond-false}
+use Rattle.std.proofs.Common.{unwrap_or, ltb, inl, inr, arith, ◌≡◌, ℕ, suc, ◌≤◌, Bool, true, false, cond, List, [], ◌∷◌, ◌++◌, length, take, drop, sym, refl, ap, ◌∙◌, suc-le-suc, zero-le}
+use Rattle.std.specs.List.{insert, AllByRecursion, position, position_or_len}
+use Rattle.std.proofs.lemmas.List.Recursion.{is_position_or_len}
+use Rattle.std.proofs.lemmas.Bool.{cond_both, cases_Bool, ltb-false}
 use Rattle.std.proofs.ByRecursion.{All-weaker}
-use Rattle.rank.specs.Ranks.{InOrder, put, place_of, Among}
+use Rattle.rank.specs.Ranks.{InOrder, put, place_of}
 
 module _ {X : Type 0} (after : X → X → Bool) (x : X) where
-  -- one step of the search for the place, at the element y that stands at i
-  module _ (xs : List X) (i : ℕ) (y : X) (l : i < length xs) (e : y ≡ get_or xs i y) where
-    step : place_of after x (drop i xs) ≡ cond (after y x) 0 (suc (place_of after x (drop (i + 1) xs)))
-    step =
-        at_drop_more (place_of after x) xs i y l ∙ ap (λ z. cond (after z x) 0 (suc (place_of after x (drop (i + 1) xs)))) (sym e)
-
-    pub place_here : after y x ≡ true → place_of after x (drop i xs) ≡ 0
-    place_here a = step ∙ cond-true (after y x) _ _ a
-
-    pub place-on : after y x ≡ false → place_of after x (drop i xs) ≡ suc (place_of after x (drop (i + 1) xs))
-    place-on a = step ∙ cond-false (after y x) _ _ a
-
   pub place-within : (xs : List X) → place_of after x xs ≤ length xs
   place-within [] = zero-le
   place-within (y ∷ ys) =
       elim (after y x) as (λ b. cond b 0 (suc (place_of after x ys)) ≤ suc (length ys)) [ true ↦ zero-le | false ↦ suc-le-suc (place-within ys) ]
+
+  -- the place is the first position that passes, else the length
+  pub place-else : (xs : List X) → unwrap_or (position (λ y. after y x) xs) (length xs) ≡ place_of after x xs
+  place-else xs =
+      let same = is_position_or_len (place_of after x) (λ y. after y x) refl (λ y ys. ap (cond (after y x) 0) (omega arith)) xs in
+      let within = place-within xs in
+      elim (cases_Bool (ltb (position_or_len (λ y. after y x) xs) (length xs))) [
+        | inl e ↦ rw e (sym same)
+        | inr e ↦ let l = ltb-false _ _ e in rw e (omega arith)
+      ]
 
   pub put_is : (xs : List X) → put after x xs ≡ take (place_of after x xs) xs ++ x ∷ drop (place_of after x xs) xs
   put_is [] = refl
@@ -33,9 +31,6 @@ module _ {X : Type 0} (after : X → X → Bool) (x : X) where
   -- x inserted at its place
   pub inserted-is-put : (xs out : List X) (n : ℕ) → out ≡ insert xs n x → n ≡ place_of after x xs → out ≡ put after x xs
   inserted-is-put xs out n e p = e ∙ ap (λ i. insert xs i x) p ∙ sym (put_is xs)
-
-  pub put-among : (xs out : List X) → out ≡ put after x xs → Among x xs out
-  put-among xs out e = record { place = place_of after x xs; within = place-within xs; is = e ∙ put_is xs }
 
   -- what holds of x and of each element holds of each when x is put among them
   pub put_all : (P : X → Type 0) (xs : List X) → P x → AllByRecursion P xs → AllByRecursion P (put after x xs)

@@ -1,11 +1,19 @@
 -- Tables with a limit: what they hold, and what becomes of an element that is offered. Assumes nothing.
-use Rattle.std.specs.Prelude.{ℕ, Bool, cond, List, length, Ok, Err, vec_items, Result, nat_lt}
+use Rattle.std.specs.Prelude.{ℕ, Bool, cond, List, length, Ok, Err, Result, nat_lt}
 use Rattle.rank.specs.declared.table.Table.{Table}
 use Rattle.rank.specs.declared.table.Full.{Full}
 
 module _ {X : Type 0} where
   abbrev pub items_of : Table X → List X
-  items_of t = vec_items t.items
+  items_of t = t.items
+
+  -- a table of this limit that holds these
+  abbrev pub holding : ℕ → List X → Table X
+  holding limit xs = record { limit = limit; items = xs }
+
+  -- the table with these in place of what it holds: its limit stays
+  abbrev pub with_items : Table X → List X → Table X
+  with_items t xs = holding t.limit xs
 
   -- a table of these elements takes one more
   abbrev pub has_room : ℕ → List X → Bool

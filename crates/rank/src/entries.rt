@@ -1,33 +1,51 @@
-ghost use Rattle.std.specs.Prelude.{◌≡◌};
-ghost use Rattle.rank.specs.Entries.{credited_after, goes_on, continues, lengthened};
+ghost use Rattle.std.specs.Prelude.{◌≡◌, ◌+◌, ◌&&◌, ◌==◌, nat_le};
+ghost use Rattle.change.specs.Lists.{limit};
+ghost use Rattle.rank.specs.Entries.{credited_after, continues, lengthened};
 ghost use Rattle.std.proofs.Common.{rules, arith};
-ghost use Rattle.rank.specs.Credits;
-ghost use Rattle.rank.specs.Credits.{lengthened-twice};
+ghost use Rattle.std.proofs.lemmas.Bool.Decides.{nat_tests};
 
 use crate::entry::BlameEntry;
 use crate::joining::Joining;
 use crate::ranking::Ranked;
 use change::list::FILE_LIMIT;
+use std::ops::Range;
 
 // Entries rank by their start in the asked file.
 impl Ranked for BlameEntry {
     ghost after = { credited_after };
 
-    ghost total = { first_of (Prim.search rules, Prim.grind (arith, Self.row.coded.inj)) };
+    ghost total = { Prim.search rules };
 
-    ghost transitive = { first_of (Prim.search rules, Prim.grind (arith, Self.row.coded.inj)) };
+    ghost transitive = { Prim.search rules };
 
     fn ranks_after(&self, other: &BlameEntry) -> bool {
         other.start_in_blamed_file < self.start_in_blamed_file
     }
 }
 
-// Whether lines end where others start, and these end within the file limit.
-fn goes_on(start: u32, len: u32, next: u32, next_len: u32) -> bool
-    ensures { result ≡ goes_on start len next next_len }
+impl BlameEntry {
+    fn range_in_blamed_file(&self) -> Range<u64>
+        ensures start { result.start ≡ self.now.start_in_blamed_file }
+        ensures end { result.end ≡ self.now.start_in_blamed_file + self.now.len }
+    {
+        let start = u64::from(self.start_in_blamed_file);
+        start..start + u64::from(self.len())
+    }
+
+    fn range_in_source_file(&self) -> Range<u64>
+        ensures start { result.start ≡ self.now.start_in_source_file }
+        ensures end { result.end ≡ self.now.start_in_source_file + self.now.len }
+    {
+        let start = u64::from(self.start_in_source_file);
+        start..start + u64::from(self.len())
+    }
+}
+
+// Whether the next lines start where the others end, and end within the file limit.
+fn goes_on(lines: Range<u64>, next: Range<u64>) -> bool
+    ensures { result ≡ (lines.end == next.start && nat_le next.end limit) }
 {
-    u64::from(start) + u64::from(len) == u64::from(next)
-        && u64::from(next) + u64::from(next_len) <= u64::from(FILE_LIMIT)
+    lines.end == next.start && next.end <= u64::from(FILE_LIMIT)
 }
 
 // An entry joins the one that goes on where it ends, in both files, of the same source.
@@ -36,26 +54,18 @@ impl Joining for BlameEntry {
 
     ghost joined = { lengthened };
 
-    ghost rank = { first_of (Prim.search rules, Prim.grind (arith, Self.row.coded.inj)) };
+    ghost rank = { Prim.search rules };
 
-    ghost onward = { λ a b c j. Credits.onward a b c j };
+    ghost onward = { Prim.grind (arith, nat_tests) };
 
-    ghost inward = { λ a b c j. Credits.inward a b c j };
+    ghost inward = { Prim.grind (arith, nat_tests) };
 
-    ghost one_result = { λ a b c j k. lengthened-twice a b c };
+    ghost one_result = { Prim.grind (arith, Self.row.coded.inj) };
 
     fn joins_with(&self, other: &BlameEntry) -> bool {
-        goes_on(
-            self.start_in_blamed_file,
-            self.len(),
-            other.start_in_blamed_file,
-            other.len(),
-        ) && goes_on(
-            self.start_in_source_file,
-            self.len(),
-            other.start_in_source_file,
-            other.len(),
-        ) && self.source.is(other.source)
+        goes_on(self.range_in_blamed_file(), other.range_in_blamed_file())
+            && goes_on(self.range_in_source_file(), other.range_in_source_file())
+            && self.source == other.source
     }
 
     fn joined_with(&self, other: &BlameEntry) -> Option<BlameEntry> {

@@ -13,3 +13,4 @@ pub mod ranges;
 pub mod ranking;
 pub mod rows;
 pub mod table;
+pub mod touching;

@@ -20,7 +20,8 @@ impl Ranked for QueuedCommit {
     ghost transitive = { Prim.search rules };
 
     fn ranks_after(&self, other: &QueuedCommit) -> bool {
-        self.time < other.time
-            || (self.time == other.time && other.source.commit < self.source.commit)
+        let by_time = other.time.cmp(&self.time);
+        let by_number = self.source.commit.cmp(&other.source.commit);
+        by_time.then(by_number).is_gt()
     }
 }

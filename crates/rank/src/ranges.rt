@@ -1,9 +1,10 @@
 ghost use Rattle.rank.specs.Abutting.{starts_after, abuts, spanning};
-ghost use Rattle.std.proofs.Common.{rules};
-ghost use Rattle.rank.specs.Spans.{spanning-three};
+ghost use Rattle.rank.specs.Touching.{touch};
+ghost use Rattle.std.proofs.Common.{rules, arith};
 
 use crate::joining::Joining;
 use crate::ranking::Ranked;
+use crate::touching::Touching;
 use change::line_range::LineRange;
 use change::list::FILE_LIMIT;
 
@@ -32,7 +33,7 @@ impl Joining for LineRange {
 
     ghost inward = { Prim.search rules };
 
-    ghost one_result = { λ a b c j k. spanning-three a b c };
+    ghost one_result = { Prim.grind (arith, Self.row.coded.inj) };
 
     fn joins_with(&self, other: &LineRange) -> bool {
         self.end() == other.start() && other.end() <= FILE_LIMIT
@@ -44,5 +45,13 @@ impl Joining for LineRange {
         } else {
             None
         }
+    }
+}
+
+impl Touching for LineRange {
+    ghost touches = { touch };
+
+    fn touches(&self, other: &LineRange) -> bool {
+        other.start() <= self.end() && self.start() <= other.end()
     }
 }

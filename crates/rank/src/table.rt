@@ -1,4 +1,4 @@
-ghost use Rattle.std.specs.Prelude.{◌≤◌, vec_len, vec_capacity};
+use std::marker::Model;
 
 // A table of at most `limit` elements. Its room is reserved when it is made, so no
 // element that it takes can fail for want of memory.
@@ -6,11 +6,22 @@ ghost use Rattle.std.specs.Prelude.{◌≤◌, vec_len, vec_capacity};
 pub struct Table<T> {
     pub(crate) items: Vec<T>,
     pub(crate) limit: usize,
-    ghost room: { limit ≤ vec_capacity items },
-    ghost few: { vec_len items ≤ limit },
 }
 
-// The table is full: the element that it did not take.
+// Clauses see the limit and the elements.
+impl<T> Model for Table<T> {
+    ghost use Rattle.std.specs.Prelude.{◌≤◌, vec_items, vec_len, vec_capacity};
+    ghost use Rattle.rank.specs.Holding.{Holding};
+
+    ghost Value = { Holding T };
+
+    ghost view = { λ t. record { limit = t.limit; items = vec_items t.items } };
+
+    ghost invariant = { λ t. (t.limit ≤ vec_capacity t.items) × (vec_len t.items ≤ t.limit) };
+}
+
+// The table is full: the element that it did not take. (The library's AllocFailed
+// says that memory ran out, which a table's room rules out.)
 #[derive(Drop, Debug, PartialEq, Eq)]
 pub struct Full<T> {
     pub value: T,

@@ -1,6 +1,6 @@
 use Rattle.std.proofs.Common.{[], ◌∷◌, refl, ap, lit<}
 use Rattle.rank.specs.Entries.{lengthened}
-use Rattle.rank.specs.Credits.{same-entry}
+use Rattle.rank.proofs.Made.{same-entry}
 use Rattle.cases.specs.Credits.{seven}
 use Rattle.cases.proofs.cases_hold.Goals as goal
 

@@ -1,30 +1,22 @@
-use Rattle.std.proofs.Common.{◌<◌, sym, ap, ◌∙◌, arith}
-use Rattle.ranges.specs.declared.clipped.Clipped.{Clipped}
-use Rattle.ranges.specs.Rows.{laid}
-use Rattle.ranges.specs.Clips.{cut_all}
-use Rattle.ranges.proofs.Along.{cut-some, cut-none, spans_all}
-use Rattle.ranges.proofs.Laid.{laid_more}
+use Rattle.std.proofs.Common.{sym, arith}
+use Rattle.ranges.proofs.Along.{cut-some, cut-none}
 use Rattle.ranges.proofs.clipping.cut.Goals as goal
 use Rattle.ranges.proofs.clipping.cut.Goals.{in-Some, in_default}
 
 pub loop-row-preserved : goal.loop-row-preserved
 loop-row-preserved c =
-    let rows = c.args.rows.now in
+    let rows = c.as_slice-row-items.result.now in
     let n = c.args.max_lines in
     let i = c.loop-row.row-index in
     let x = c.row-item.result in
-    let few : c.loop-row.out.count < 64 = omega (arith, c.loop-row.invariant.1) in
+    let inv = c.loop-row.invariant in
     elim c.match-cut_row.branch [
-      | in-Some w ↦ (
-        laid_more _ _ _ _ c.loop-row.invariant.0 few w.out-is ∙ sym (ap laid (cut-some n rows i x c.loop-row-test.true c.row-item.is _ w.in-Some.ensures)),
-        omega (arith, c.loop-row.invariant.1, ap (λ (o : Clipped). o.count) w.out-is),
+      | in-Some w ↦ rw w.out-is (
+        rw (w.push.ensures.items, inv.0) (sym (cut-some n rows i x c.loop-row-test.true c.row-item.is _ w.in-Some.ensures)),
+        omega (arith, inv.1, w.push.ensures.len),
       )
-      | in_default w ↦ (
-        w.out-is ∙ c.loop-row.invariant.0 ∙ sym (ap laid (cut-none n rows i x c.loop-row-test.true c.row-item.is w.in_default.ensures)),
-        omega (arith, c.loop-row.invariant.1, ap (λ (o : Clipped). o.count) w.out-is),
+      | in_default w ↦ rw w.out-is (
+        rw inv.0 (sym (cut-none n rows i x c.loop-row-test.true c.row-item.is w.in_default.ensures)),
+        omega (arith, inv.1),
       )
     ]
-
-pub returns : goal.returns
-returns c =
-    c.loop-row.invariant.0 ∙ ap (λ l. laid (cut_all c.args.max_lines l)) (spans_all c.args.rows.now c.loop-row.row-index c.loop-row-test.false)

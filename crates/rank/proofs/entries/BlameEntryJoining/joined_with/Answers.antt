@@ -1,5 +1,5 @@
 use Rattle.std.proofs.Common.{◌+◌, sym, arith}
-use Rattle.rank.specs.Credits.{made-lengthened}
+use Rattle.rank.proofs.Made.{made-lengthened}
 use Rattle.rank.proofs.entries.BlameEntryJoining.joined_with.Goals as goal
 
 pub returns-then-joins_with : goal.returns-then-joins_with

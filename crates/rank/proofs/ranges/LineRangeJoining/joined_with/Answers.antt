@@ -1,5 +1,5 @@
 use Rattle.std.proofs.Common.{sym}
-use Rattle.rank.specs.Spans.{made-spanning}
+use Rattle.rank.proofs.Made.{made-spanning}
 use Rattle.rank.proofs.ranges.LineRangeJoining.joined_with.Goals as goal
 
 pub returns-then-joins_with : goal.returns-then-joins_with

@@ -1,0 +1,39 @@
+-- What it takes to join, in numbers, and what the laws of joining say of entries and ranges.
+use Rattle.std.specs.Prelude.{◌≡◌, ℕ, ◌+◌, ◌≤◌, ◌&&◌, ◌==◌, nat_le, true}
+use Rattle.std.proofs.Common.{refl, arith}
+use Rattle.std.proofs.lemmas.Bool.{and_parts, eqb-true, leb-true}
+use Rattle.std.proofs.lemmas.Bool.Decides.{nat_tests}
+use Rattle.change.specs.Lists.{limit}
+use Rattle.change.specs.declared.line_range.LineRange.{LineRange}
+use Rattle.hunk.specs.Hunks.{same_source}
+use Rattle.rank.specs.declared.entry.BlameEntry.{BlameEntry}
+use Rattle.rank.specs.Abutting.{spanning}
+use Rattle.rank.specs.Entries.{goes_on, continues, lengthened}
+use Rattle.rank.proofs.Made.{same-entry, same-range}
+
+pub goes_on_lem : (s n t m : ℕ) → goes_on s n t m ≡ true → (s + n ≡ t) × (t + m ≤ limit)
+goes_on_lem s n t m g = let p = and_parts (s + n == t) (nat_le (t + m) limit) g in (eqb-true _ _ p.0, leb-true _ _ p.1)
+
+pub record Continued (a b : BlameEntry) : Type 0 where
+  pub asked : goes_on a.start_in_blamed_file a.len b.start_in_blamed_file b.len ≡ true
+  pub kept : goes_on a.start_in_source_file a.len b.start_in_source_file b.len ≡ true
+  pub same : a.source.commit ≡ b.source.commit
+
+pub continued : (a b : BlameEntry) → continues a b ≡ true → Continued a b
+continued a b j =
+    let p = and_parts (goes_on a.start_in_blamed_file a.len b.start_in_blamed_file b.len && goes_on a.start_in_source_file a.len b.start_in_source_file b.len) (same_source a.source b.source) j in
+    let q = and_parts (goes_on a.start_in_blamed_file a.len b.start_in_blamed_file b.len) (goes_on a.start_in_source_file a.len b.start_in_source_file b.len) p.0 in
+    record { asked = q.0; kept = q.1; same = eqb-true _ _ p.1 }
+
+pub onward : (a b c : BlameEntry) → continues a b ≡ true → continues (lengthened a b) c ≡ continues b c
+onward a b c j = grind (arith, nat_tests)
+
+pub inward : (a b c : BlameEntry) → continues a b ≡ true → continues c (lengthened a b) ≡ continues c a
+inward a b c j = grind (arith, nat_tests)
+
+-- three come to one, whichever two are joined first
+pub lengthened-twice : (a b c : BlameEntry) → lengthened (lengthened a b) c ≡ lengthened a (lengthened b c)
+lengthened-twice a b c = same-entry _ _ refl refl (omega arith) refl
+
+pub spanning-three : (a b c : LineRange) → spanning (spanning a b) c ≡ spanning a (spanning b c)
+spanning-three a b c = same-range _ _ refl (omega arith)

@@ -1,0 +1,6 @@
+-- What a table is to those who use it: its limit, and its elements in their order. Assumes nothing.
+use Rattle.std.specs.Prelude.{ℕ, List}
+
+pub record Holding (X : Type 0) : Type 0 where
+  pub limit : ℕ
+  pub items : List X
