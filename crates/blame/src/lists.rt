@@ -47,13 +47,15 @@ impl fmt::Display for Summary {
             kept,
         } = *self;
         let lists = judged.saturating_add(refused).saturating_add(unread);
-        write!(f,
+        write!(
+            f,
             "lists: {lists}, refused: {refused}, not judged: {unread}; lines set: {set}, kept: {kept}"
         )
     }
 }
 
 // Prints what a text of recorded lists says of the lines asked for.
+#[derive(Drop)]
 struct Printer<'a> {
     rt: &'a HostRuntime,
     asked: &'a BlameRanges,
