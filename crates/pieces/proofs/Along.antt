@@ -1,11 +1,11 @@
 -- Searches along the rows of a table, one row on.
-use Rattle.std.proofs.Common.{◌≡◌, ℕ, ◌+◌, ◌<◌, ◌≤◌, false, ltb, List, [], ◌∷◌, map, length, get_or, drop, Some, None, Option, sym, refl, ap, ◌∙◌, arith}
+use Rattle.std.proofs.Common.{◌≡◌, ℕ, ◌+◌, ◌<◌, ◌≤◌, not, cond, List, [], ◌∷◌, map, length, get_or, drop, Some, None, Option, sym, refl, ap, ◌∙◌}
 use Rattle.std.proofs.lemmas.List.{at_drop_more, at_drop_all}
-use Rattle.std.specs.Option.{option_map}
-use Rattle.change.specs.declared.span.Span.{Span}
+use Rattle.std.proofs.lemmas.Iterator.Adapters.{position_from-zero}
+use Rattle.std.specs.List.{position, position_from}
 use Rattle.hunk.specs.declared.source.Source.{Source}
-use Rattle.hunk.specs.Hunks.{Piece, start_in, range_in, span_of, on_some}
-use Rattle.pieces.specs.Process.{outside}
+use Rattle.hunk.specs.Hunks.{Piece, has}
+use Rattle.pieces.specs.Process.{first_none, outside, first_outside}
 
 -- a function of the rows that are left, one row on; r is the row, which reads as v
 pub at_row : {R Y : Type 0} (reads : R → Option Piece) (F : List (Option Piece) → Y) (rows : List R) (i : ℕ) (r : R) (v : Option Piece)
@@ -16,17 +16,23 @@ at_row reads F rows i r v l e f =
 pub at-end : {R Y : Type 0} (reads : R → Option Piece) (F : List (Option Piece) → Y) (rows : List R) (i : ℕ) → length rows ≤ i → F (map reads (drop i rows)) ≡ F []
 at-end reads F rows i l = at_drop_all (λ q. F (map reads q)) rows i l
 
--- whether a row is outside, by the range that it has in c
-pub outside-unnamed : (c : Source) (total : ℕ) (h : Piece) → range_in c h ≡ None → outside c total (Some h) ≡ false
-outside-unnamed c total h e = go (start_in c h.suspects) refl e
+-- the first row that is no hunk, or outside, as a place in the table
+pub none-position : {R : Type 0} (reads : R → Option Piece) (rows : List R) → position (λ r. not (has (reads r))) rows ≡ first_none 0 (map reads rows)
+none-position {R = R} reads rows = position_from-zero (λ r. not (has (reads r))) rows ∙ from 0 rows
   where
-    go : (s : Option ℕ) → start_in c h.suspects ≡ s → option_map (span_of h.size) s ≡ None → on_some s false (λ x. ltb total (x + h.size)) ≡ false
-    go None q n = refl
-    go (Some x) q n = let z : ◌≡◌ {A = ℕ} 0 1 = cc in absurd (omega arith)
+    from : (i : ℕ) (rs : List R) → position_from (λ r. not (has (reads r))) i rs ≡ first_none i (map reads rs)
+    from i [] = refl
+    from i (r ∷ rs) = at-one (reads r) (from (i + 1) rs)
+      where
+        at-one : (o : Option Piece) → position_from (λ r. not (has (reads r))) (i + 1) rs ≡ first_none (i + 1) (map reads rs)
+            → cond (not (has o)) (Some i) (position_from (λ r. not (has (reads r))) (i + 1) rs) ≡ first_none i (o ∷ map reads rs)
+        at-one None e = refl
+        at-one (Some h) e = e
 
-pub outside-named : (c : Source) (total : ℕ) (h : Piece) (r : Span) → range_in c h ≡ Some r → outside c total (Some h) ≡ ltb total r.end
-outside-named c total h r e = go (start_in c h.suspects) refl e
+pub outside-position : {R : Type 0} (reads : R → Option Piece) (c : Source) (total : ℕ) (rows : List R)
+    → position (λ r. outside c total (reads r)) rows ≡ first_outside c total 0 (map reads rows)
+outside-position {R = R} reads c total rows = position_from-zero (λ r. outside c total (reads r)) rows ∙ from 0 rows
   where
-    go : (s : Option ℕ) → start_in c h.suspects ≡ s → option_map (span_of h.size) s ≡ Some r → on_some s false (λ x. ltb total (x + h.size)) ≡ ltb total r.end
-    go None q n = let z : ◌≡◌ {A = ℕ} 0 1 = cc in absurd (omega arith)
-    go (Some x) q n = let z : span_of h.size x ≡ r = cc in ap (λ (v : Span). ltb total v.end) z
+    from : (i : ℕ) (rs : List R) → position_from (λ r. outside c total (reads r)) i rs ≡ first_outside c total i (map reads rs)
+    from i [] = refl
+    from i (r ∷ rs) = ap (λ o. cond (outside c total (reads r)) (Some i) o) (from (i + 1) rs)

@@ -14,6 +14,7 @@ use Rattle.hunk.specs.Hunks.{Named, Piece, same_source, named}
 use Rattle.hunk.specs.Rows.{row_piece, row_of, suspect_of}
 use Rattle.hunk.specs.Sound.{blank}
 use Rattle.pieces.specs.declared.fault.ListFault.{ListFault}
+use Rattle.pieces.specs.declared.fault.ListFault.TheVariants.{ListFull}
 use Rattle.pieces.specs.declared.fault.ProcessFault.{ProcessFault}
 use Rattle.pieces.specs.declared.fault.ProcessFault.TheVariants.{HunkOutside, HunksFull}
 use Rattle.pieces.specs.Answers.{Answered}
@@ -25,33 +26,51 @@ use Rattle.pieces.specs.Tables.{Filled}
 pub judged-good : (cs : List Change) (t : Totals) → judge_of cs ≡ Ok t → Valid cs × (t.new ≡ new_total cs)
 judged-good cs t e = go (checked cs) refl e
   where
-    same : {x y : Totals} → ◌≡◌ {A = Result Totals ListFault} (Ok x) (Ok y) → x ≡ y
-    same q = cc
-
-    apart : {x : ListFault} {y : Totals} → ◌≡◌ {A = Result Totals ListFault} (Err x) (Ok y) → ⊥
-    apart q = let z : ◌≡◌ {A = ℕ} 0 1 = cc in omega arith
-
     go : (r : Result Totals BadList) → checked cs ≡ r → not_too_long cs r ≡ Ok t → Valid cs × (t.new ≡ new_total cs)
-    go (Err b) q n = absurd (apart n)
+    go (Err b) q n = absurd cc
     go (Ok u) q n =
         elim (cases_Bool (leb (length cs) 512)) [
           | inl l ↦
-              let w : u ≡ t = same (rw l at n) in
+              let k : ◌≡◌ {A = Result Totals ListFault} (Ok u) (Ok t) = rw l at n in
+              let w : u ≡ t = cc in
               let j = subst (Judged cs) q (judged cs) in
               (j.0, ap (λ (v : Totals). v.new) (sym w) ∙ j.1)
-          | inr l ↦ absurd (apart (rw l at n))
+          | inr l ↦ let k : ◌≡◌ {A = Result Totals ListFault} (Err ListFull) (Ok t) = rw l at n in absurd cc
         ]
 
-module _ (c p : Source) (cs : List Change) (room : ℕ) (os : List (Option Piece)) (t : Totals)
-    (a : first_none 0 os ≡ None) (b : same_source c p ≡ false) (j : judge_of cs ≡ Ok t) where
-  pub answer-outside : (i : ℕ) → first_outside c (new_total cs) 0 os ≡ Some i → process_of c p cs room os ≡ Err (HunkOutside i)
-  answer-outside i o = rw (a, b, j, o)
+-- no row is outside of a list that is judged good, by its total
+pub all-inside : (c : Source) (cs changes : List Change) (os : List (Option Piece)) (t : Totals) → changes ≡ cs → judge_of cs ≡ Ok t → None ≡ first_outside c t.new 0 os
+    → first_outside c (new_total changes) 0 os ≡ None
+all-inside c cs changes os t same j o = rw same (ap (λ k. first_outside c k 0 os) (sym (judged-good cs t j).1) ∙ sym o)
 
-  pub answer-full : first_outside c (new_total cs) 0 os ≡ None → leb (length (pieces c p cs (hunks_of os))) room ≡ false → process_of c p cs room os ≡ Err HunksFull
-  answer-full o l = rw (a, b, j, o, l)
+-- what is answered of such a list: `changes` is the list that was judged
+module _ {R : Type 0} (means : R → Piece) (exact : R → Type 0) (entry : List R) (c p : Source) (cs changes : List Change) (room fit : ℕ) (os : List (Option Piece)) (t : Totals)
+    (a : first_none 0 os ≡ None) (b : same_source c p ≡ false) (same : changes ≡ cs) (j : judge_of cs ≡ Ok t) (m : fit ≡ room) where
+  total : t.new ≡ new_total cs
+  total = (judged-good cs t j).1
 
-  pub answer-pieces : first_outside c (new_total cs) 0 os ≡ None → leb (length (pieces c p cs (hunks_of os))) room ≡ true → process_of c p cs room os ≡ Ok (pieces c p cs (hunks_of os))
-  answer-pieces o l = rw (a, b, j, o, l)
+  pub answered-outside : (i : ℕ) → Some i ≡ first_outside c t.new 0 os → Answered means exact entry entry (process_of c p cs room os) (Err (HunkOutside i))
+  answered-outside i o =
+      let q : first_outside c (new_total cs) 0 os ≡ Some i = ap (λ k. first_outside c k 0 os) (sym total) ∙ sym o in
+      let w : process_of c p cs room os ≡ Err (HunkOutside i) = rw (a, b, j, q) in
+      subst (λ r. Answered means exact entry entry r (Err (HunkOutside i))) (sym w) (refl, refl)
+
+  pub answered-full : None ≡ first_outside c t.new 0 os → false ≡ leb (length (pieces c p changes (hunks_of os))) fit
+      → Answered means exact entry entry (process_of c p cs room os) (Err HunksFull)
+  answered-full o l =
+      let q : first_outside c (new_total cs) 0 os ≡ None = ap (λ k. first_outside c k 0 os) (sym total) ∙ sym o in
+      let f : leb (length (pieces c p cs (hunks_of os))) room ≡ false = sym (rw (same, m) at l) in
+      let w : process_of c p cs room os ≡ Err HunksFull = rw (a, b, j, q, f) in
+      subst (λ r. Answered means exact entry entry r (Err HunksFull)) (sym w) (refl, refl)
+
+  pub answered-pieces : (n : ℕ) (out : List R) → None ≡ first_outside c t.new 0 os → true ≡ leb (length (pieces c p changes (hunks_of os))) fit
+      → n ≡ length (pieces c p changes (hunks_of os)) → Filled means exact entry (pieces c p changes (hunks_of os)) out
+      → Answered means exact entry out (process_of c p cs room os) (Ok n)
+  answered-pieces n out o l k w =
+      let q : first_outside c (new_total cs) 0 os ≡ None = ap (λ k. first_outside c k 0 os) (sym total) ∙ sym o in
+      let f : leb (length (pieces c p cs (hunks_of os))) room ≡ true = sym (rw (same, m) at l) in
+      let g : process_of c p cs room os ≡ Ok (pieces c p cs (hunks_of os)) = rw (a, b, j, q, f) in
+      subst (λ r. Answered means exact entry out r (Ok n)) (sym g) (rw same at k, rw same at w)
 
 -- a written row reads as its piece
 named_back : (size : ℕ) (ss : List Named) → map named (map (suspect_of size) ss) ≡ ss

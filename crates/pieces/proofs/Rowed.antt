@@ -1,5 +1,5 @@
 -- Rows that can be read as hunks.
-use Rattle.std.proofs.Common.{◌≡◌, ℕ, true, false, map, Some, None, Option, sym, refl, ap, ◌∙◌, inl, inr, arith}
+use Rattle.std.proofs.Common.{◌≡◌, true, false, map, Some, None, Option, sym, refl, ap, ◌∙◌, inl, inr}
 use Rattle.std.proofs.lemmas.Bool.{cases_Bool}
 use Rattle.change.specs.declared.span.Span.{Span}
 use Rattle.hunk.specs.declared.source.Source.{Source}
@@ -13,7 +13,7 @@ pub reads-row : (r : HunkRow) (h : Piece) → read_row r ≡ Some h → (is_hunk
 reads-row r h e =
     elim (cases_Bool (is_hunk r)) [
       | inl b ↦ let z : Some (row_piece r) ≡ Some h = rw b at e in let w : row_piece r ≡ h = cc in (b, w)
-      | inr b ↦ let z : None ≡ Some h = rw b at e in let w : ◌≡◌ {A = ℕ} 0 1 = cc in absurd (omega arith)
+      | inr b ↦ let z : None ≡ Some h = rw b at e in absurd cc
     ]
 
 pub renamed-row : (r s : HunkRow) (h : Piece) (c p : Source) (x : Span) → read_row r ≡ Some h → Renames c p x h
@@ -34,5 +34,5 @@ not-read None e = refl
 not-read (Some x) e = cc
 
 pub read_as : {A : Type 0} (o : Option A) → has o ≡ true → (x : A) × (o ≡ Some x)
-read_as None e = let z : ◌≡◌ {A = ℕ} 0 1 = cc in absurd (omega arith)
+read_as None e = absurd cc
 read_as (Some x) e = (x, refl)

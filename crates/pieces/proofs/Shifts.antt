@@ -1,7 +1,7 @@
 -- Offsets as lines are added and deleted, and the piece that moves by one.
-use Rattle.std.proofs.Common.{◌≡◌, ℕ, ◌+◌, ◌-◌, ◌^◌, ◌<◌, ◌≤◌, true, false, not, ◌&&◌, ltb, leb, Some, None, Option, unwrap_or, sym, ap, ◌∙◌, inl, inr, arith}
+use Rattle.std.proofs.Common.{◌≡◌, ℕ, ◌+◌, ◌-◌, ◌^◌, ◌<◌, ◌≤◌, true, false, not, ◌&&◌, ltb, leb, Some, None, Option, unwrap_or, sym, refl, ap, ◌∙◌, inl, inr, arith}
 use Rattle.std.proofs.lemmas.Bool.{cases_Bool, ltb-true, ltb-false, lt-ltb, le-leb, and_from, not_from_false}
-use Rattle.std.specs.Option.{option_map}
+use Rattle.std.specs.Option.{option_map, option_and_then}
 use Rattle.change.specs.declared.span.Span.{Span}
 use Rattle.change.specs.Lists.{limit}
 use Rattle.hunk.specs.declared.source.Source.{Source}
@@ -12,6 +12,15 @@ use Rattle.pieces.specs.declared.offset.Offset.TheVariants.{Added, Deleted}
 use Rattle.pieces.specs.Offsets.{size_of, plus, minus, shifted, Stands}
 use Rattle.pieces.specs.Steps.{moves}
 
+-- an offset grows by no more than what is added or deleted
+pub plus_size : (o : Offset) (n : ℕ) → size_of (plus o n) ≤ size_of o + n
+plus_size (Added k) n = omega arith
+plus_size (Deleted k) n = elim (cases_Bool (ltb k n)) [ inl e ↦ rw e (omega arith) | inr e ↦ rw e (omega arith) ]
+
+pub minus_size : (o : Offset) (n : ℕ) → size_of (minus o n) ≤ size_of o + n
+minus_size (Added k) n = elim (cases_Bool (ltb k n)) [ inl e ↦ rw e (omega arith) | inr e ↦ rw e (omega arith) ]
+minus_size (Deleted k) n = omega arith
+
 pub stands-plus : (o : Offset) (a d n : ℕ) → Stands o a d → Stands (plus o n) (a + n) d
 stands-plus (Added k) a d n s = omega (arith, s)
 stands-plus (Deleted k) a d n s =
@@ -21,11 +30,6 @@ pub stands-minus : (o : Offset) (a d n : ℕ) → Stands o a d → Stands (minus
 stands-minus (Added k) a d n s =
     elim (cases_Bool (ltb k n)) [ inl e ↦ rw e (omega (arith, s, ltb-true _ _ e)) | inr e ↦ rw e (omega (arith, s, ltb-false _ _ e)) ]
 stands-minus (Deleted k) a d n s = omega (arith, s)
-
--- the offset is at most as large as what was added, or deleted
-pub stands-size : (o : Offset) (a d : ℕ) → Stands o a d → size_of o ≤ a + d
-stands-size (Added k) a d s = omega (arith, s)
-stands-size (Deleted k) a d s = omega (arith, s)
 
 pub shifts : (o : Offset) (a d x : ℕ) → Stands o a d → a ≤ x → x - a + d < 2 ^ 32 → shifted o x ≡ Some (x - a + d)
 shifts (Added k) a d x s l u =
@@ -49,6 +53,21 @@ moves-to c p o h a d x ne s e l u =
     ap (λ v. on_some v h (λ r. on_some (shifted o r.start) h (λ y. unwrap_or (passed_of c p y h) h))) (ap (option_map (span_of h.size)) e)
     ∙ ap (λ v. on_some v h (λ y. unwrap_or (passed_of c p y h) h)) (shifts o a d x s l (omega arith))
     ∙ ap (λ v. unwrap_or v h) q
+
+-- the piece as it is moved: by its range, the place of that, and the hunk that names the parent there
+pub moves-by_chain : (c p : Source) (o : Offset) (h : Piece)
+    → moves c p o h ≡ unwrap_or (option_and_then (λ y. passed_of c p y h) (option_and_then (λ (r : Span). shifted o r.start) (range_in c h))) h
+unfolding moves
+moves-by_chain c p o h = go (range_in c h)
+  where
+    at : (v : Option ℕ) → on_some v h (λ y. unwrap_or (passed_of c p y h) h) ≡ unwrap_or (option_and_then (λ y. passed_of c p y h) v) h
+    at None = refl
+    at (Some y) = refl
+
+    go : (v : Option Span) → on_some v h (λ r. on_some (shifted o r.start) h (λ y. unwrap_or (passed_of c p y h) h))
+        ≡ unwrap_or (option_and_then (λ y. passed_of c p y h) (option_and_then (λ (r : Span). shifted o r.start) v)) h
+    go None = refl
+    go (Some r) = at (shifted o r.start)
 
 -- the piece step by step: no range, no place, no room, or moved
 module _ (c p : Source) (o : Offset) (h : Piece) where

@@ -69,14 +69,8 @@ split-whole c (k ∷ ks) h f =
     passed-by h.size k (start_in c h.suspects) (λ x. front (k - x) h ∷ split c ks (back (k - x) h)) (split c ks h) (h ∷ [])
     (split-whole c ks h (λ x e. (f x e).1)) (λ x e. (f x e).0)
 
-none-some : {x : ℕ} → None ≡ Some x → ⊥
-none-some e = let z : ◌≡◌ {A = ℕ} 0 1 = cc in omega arith
-
-some_same : {x y : ℕ} → Some x ≡ Some y → x ≡ y
-some_same e = cc
-
 pub unnamed-uncut : (c : Source) (ks : List ℕ) (h : Piece) → start_in c h.suspects ≡ None → Uncut c h ks
-unnamed-uncut c ks h n x e = absurd (none-some (sym n ∙ e))
+unnamed-uncut c ks h n x e = absurd cc
 
 pub pieces-unnamed : (c p : Source) (cs : List Change) (h : Piece) → start_in c h.suspects ≡ None → pieces c p cs (h ∷ []) ≡ h ∷ []
 pieces-unnamed c p cs h n =
@@ -86,7 +80,7 @@ pieces-unnamed c p cs h n =
 -- a hunk that is cut at k has nothing more to cut before k
 front-uncut : (c : Source) (k x : ℕ) (ks : List ℕ) (h : Piece) → start_in c h.suspects ≡ Some x → x < k → Rises k ks → Uncut c (front (k - x) h) ks
 front-uncut c k x ks h e l r y s =
-    let u : x ≡ y = some_same (sym e ∙ s) in
+    let u : x ≡ y = cc in
     All-weaker (λ i. k ≤ i) (Clear y (k - x)) (λ i m. inr (omega arith)) ks (rises-all k ks r)
 
 splits : (c : Source) (a : ℕ) (ks : List ℕ) → Rises a ks → (h : Piece) → cut_at_all c ks (h ∷ []) ≡ split c ks h

@@ -1,5 +1,5 @@
 -- Where a hunk begins in each of its suspects once one of them is dropped or renamed.
-use Rattle.std.proofs.Common.{◌≡◌, ℕ, true, false, cond, List, [], ◌∷◌, map, Some, None, filter, sym, refl, ap, ◌∙◌, inl, inr, arith}
+use Rattle.std.proofs.Common.{◌≡◌, ℕ, true, false, cond, List, [], ◌∷◌, map, Some, None, filter, sym, refl, ap, ◌∙◌, inl, inr}
 use Rattle.std.proofs.lemmas.Bool.{cases_Bool, cond_both, eqb-true, eqb-false, eq-eqb, ne_eqb}
 use Rattle.hunk.specs.declared.source.Source.{Source}
 use Rattle.hunk.specs.Hunks.{Named, Piece, same_source, start_in, has, names, isnt, without, with_suspects, rename, passed}
@@ -41,13 +41,13 @@ renamed-other c p q y (s ∷ ss) n m =
     ]
 
 renamed-new : (c p : Source) (x y : ℕ) (ss : List Named) → start_in c ss ≡ Some x → has (start_in p ss) ≡ false → start_in p (map (rename c p y) ss) ≡ Some y
-renamed-new c p x y [] e n = let z : ◌≡◌ {A = ℕ} 0 1 = cc in absurd (omega arith)
+renamed-new c p x y [] e n = absurd cc
 renamed-new c p x y (s ∷ ss) e n =
     elim (cases_Bool (same_source s.source c)) [
       | inl g ↦ let i : same_source p p ≡ true = eq-eqb _ _ refl in rw g (rw i)
       | inr g ↦
           elim (cases_Bool (same_source s.source p)) [
-            | inl i ↦ let w : has (Some s.start) ≡ false = rw i at n in let z : ◌≡◌ {A = ℕ} 0 1 = cc in absurd (omega arith)
+            | inl i ↦ let w : has (Some s.start) ≡ false = rw i at n in absurd cc
             | inr i ↦ rw g (rw i (renamed-new c p x y ss (rw g at e) (rw i at n)))
           ]
     ]
@@ -61,8 +61,7 @@ named-apart p q z ss e n =
     ne_eqb _ _ (λ i.
     let s : start_in p ss ≡ start_in q ss = ap (λ k. start_in (record { commit = k }) ss) i in
     let w : has (Some z) ≡ false = sym (ap has (s ∙ e)) ∙ n in
-    let o : ◌≡◌ {A = ℕ} 0 1 = cc in
-    omega arith)
+    cc)
 
 -- c passed on to p
 module _ (c p : Source) (y : ℕ) (h : Piece) where

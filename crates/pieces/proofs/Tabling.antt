@@ -36,14 +36,14 @@ count-unnamed c p cs h e = go (start_in c h.suspects) refl e
   where
     go : (s : Option ℕ) → start_in c h.suspects ≡ s → option_map (span_of h.size) s ≡ None → length (pieces c p cs (h ∷ [])) ≡ 1
     go None q n = pieces-length-unnamed c p cs h q
-    go (Some x) q n = let z : ◌≡◌ {A = ℕ} 0 1 = cc in absurd (omega arith)
+    go (Some x) q n = absurd cc
 
 pub count-named : (c p : Source) (cs : List Change) (h : Piece) (r : Span) → Follows 0 cs → range_in c h ≡ Some r
     → length (pieces c p cs (h ∷ [])) ≡ 1 + inside_from r.start r.end (cuts cs)
 count-named c p cs h r f e = go (start_in c h.suspects) refl e
   where
     go : (s : Option ℕ) → start_in c h.suspects ≡ s → option_map (span_of h.size) s ≡ Some r → length (pieces c p cs (h ∷ [])) ≡ 1 + inside_from r.start r.end (cuts cs)
-    go None q n = let z : ◌≡◌ {A = ℕ} 0 1 = cc in absurd (omega arith)
+    go None q n = absurd cc
     go (Some x) q n =
         let z : span_of h.size x ≡ r = cc in
         pieces-length c p cs h x f q ∙ ap (λ (v : Span). 1 + inside_from v.start v.end (cuts cs)) z
@@ -58,7 +58,7 @@ pub none-outside : (c : Source) (total i : ℕ) (o : Option Piece) (os : List (O
     → (outside c total o ≡ false) × (first_outside c total (i + 1) os ≡ None)
 none-outside c total i o os e =
     elim (cases_Bool (outside c total o)) [
-      | inl b ↦ let z : Some i ≡ None = rw b at e in let n : ◌≡◌ {A = ℕ} 0 1 = cc in absurd (omega arith)
+      | inl b ↦ let z : Some i ≡ None = rw b at e in absurd cc
       | inr b ↦ (b, rw b at e)
     ]
 

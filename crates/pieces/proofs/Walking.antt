@@ -33,9 +33,6 @@ pub record On (whole cs : List Change) (at a d x : ℕ) (o : Offset) : Type 0 wh
   pub stands : Stands o a d
   pub fits : at - a + d + old_total cs ≤ limit
 
-some_same : {x y : ℕ} → Some x ≡ Some y → x ≡ y
-some_same e = cc
-
 module _ (c p : Source) (ne : same_source c p ≡ false) (whole : List Change) where
   -- a piece that is kept moves, and one that is not stays
   moved-goes : (o : Offset) (h : Piece) (a d x : ℕ) → Stands o a d → start_in c h.suspects ≡ Some x → a ≤ x → x - a + d + h.size ≤ limit
@@ -49,7 +46,7 @@ module _ (c p : Source) (ne : same_source c p ≡ false) (whole : List Change) w
   uncut : (cs : List Change) (at x : ℕ) (h : Piece) → Follows at cs → start_in c h.suspects ≡ Some x → x + h.size ≤ at → split c (cuts cs) h ≡ h ∷ []
   uncut cs at x h f e l =
       split-whole c (cuts cs) h (λ y s.
-      let u : x ≡ y = some_same (sym e ∙ s) in
+      let u : x ≡ y = cc in
       All-weaker (λ k. at ≤ k) (λ k. (k ≤ y) ⊎ (y + h.size ≤ k)) (λ k m. inr (omega arith)) (cuts cs) (rises-all at (cuts cs) (cuts-rise cs at f)))
 
   -- the first line of a hunk whose lines are all before the end reached, or in an unchanged range behind it

@@ -1,11 +1,10 @@
 -- The walk of one hunk, with its pieces written to a table as it goes.
-use Rattle.std.proofs.Common.{◌≡◌, ℕ, ◌+◌, ◌*◌, ◌^◌, ◌<◌, ◌≤◌, Bool, true, false, cond, List, [], ◌∷◌, ◌++◌, length, get_or, drop, Some, None, Option, sym, refl, ap, ◌∙◌, subst, arith}
-use Rattle.std.proofs.lemmas.List.{append_assoc, append-nil, length-append, drop_all, drop-drop}
+use Rattle.std.proofs.Common.{◌≡◌, ℕ, ◌+◌, ◌*◌, ◌<◌, ◌≤◌, false, List, [], ◌∷◌, ◌++◌, length, slice_get, Some, None, Option, sym, refl, ap, ◌∙◌, subst, arith}
+use Rattle.std.proofs.lemmas.List.{append_assoc, append-nil, length-append}
 use Rattle.std.specs.Option.{option_map}
 use Rattle.change.specs.declared.change.Change.{Change}
 use Rattle.change.specs.declared.change.Change.TheVariants.{Unchanged, AddedOrReplaced, Deleted}
 use Rattle.change.specs.Lists.{limit, new_total, old_total, Valid}
-use Rattle.change.proofs.Walks.{blank, here}
 use Rattle.hunk.specs.declared.source.Source.{Source}
 use Rattle.hunk.specs.Hunks.{Piece, same_source, start_in, range_in, span_of}
 use Rattle.pieces.specs.declared.offset.Offset.{Offset}
@@ -14,11 +13,12 @@ use Rattle.pieces.specs.Offsets.{size_of}
 use Rattle.pieces.specs.Pieces.{pieces}
 use Rattle.pieces.specs.Process.{Inside}
 use Rattle.pieces.specs.Steps.{Told, step_of, at_unchanged, at_added, at_deleted, go_on, walk_of}
-use Rattle.pieces.specs.Skips.{Caught}
+use Rattle.pieces.specs.Skips.{GoesOn, Caught}
 use Rattle.pieces.specs.Tables.{Filled}
-use Rattle.pieces.specs.Walkers.{weight, weights, head_of}
+use Rattle.pieces.specs.Walkers.{weight, weights, head_of, tail_of}
 use Rattle.pieces.proofs.Filling.{fill_none}
 use Rattle.pieces.proofs.Shifts.{moves-unnamed}
+use Rattle.pieces.proofs.Skipping.{goes-on}
 use Rattle.pieces.proofs.Splits.{pieces-unnamed}
 use Rattle.pieces.proofs.Walking.{walk-pieces}
 
@@ -54,24 +54,15 @@ module _ {R : Type 0} (means : R → Piece) (exact : R → Type 0) (entry : List
     pub filled : Filled means exact entry ready out
     pub whole : ready ++ go_on c p left (λ g. walk_of c p o g rest) ≡ walk_of c p (Added 0) h cs
     pub fits : size_of o + weights rest ≤ 2 * limit
+    pub follows : GoesOn rest
 
--- the changes behind the one at hand
-abbrev pub tail_of : List Change → List Change
-tail_of [] = []
-tail_of (x ∷ xs) = xs
+pub first-is : (cs : List Change) (x : Change) → Some x ≡ slice_get cs 0 → cs ≡ x ∷ tail_of cs
+first-is [] x e = cc
+first-is (y ∷ ys) x e = cc
 
-pub head_at : (cs : List Change) (i : ℕ) (x : Change) → i < length cs → get_or cs i blank ≡ x → Some x ≡ head_of (drop i cs)
-head_at cs i x h e = sym (ap head_of (here cs i x h e))
-
-pub head-past : (cs : List Change) (i : ℕ) → length cs ≤ i → None ≡ head_of (drop i cs)
-head-past cs i h = sym (ap head_of (drop_all i cs h))
-
-pub tail_at : (cs : List Change) (i : ℕ) → drop (i + 1) cs ≡ tail_of (drop i cs)
-tail_at cs i = sym (drop-drop 1 i cs) ∙ tail-drop (drop i cs)
-  where
-    tail-drop : (l : List Change) → drop 1 l ≡ tail_of l
-    tail-drop [] = refl
-    tail-drop (x ∷ xs) = refl
+goes-tail : (cs : List Change) → GoesOn cs → GoesOn (tail_of cs)
+goes-tail [] f = f
+goes-tail (x ∷ xs) f = goes-on x xs f
 
 weights-next : (rest : List Change) → weight (head_of rest) + weights (tail_of rest) ≡ weights rest
 weights-next [] = refl
@@ -79,7 +70,7 @@ weights-next (x ∷ xs) = refl
 
 -- a walk is one step, and the walk from there on
 walk-next : (c p : Source) (o : Offset) (h : Piece) (rest : List Change)
-    → walk_of c p o h rest ≡ (step_of c p o true h (head_of rest)).out ++ go_on c p (step_of c p o true h (head_of rest)).piece (λ g. walk_of c p (step_of c p o true h (head_of rest)).offset g (tail_of rest))
+    → walk_of c p o h rest ≡ (step_of c p o (Some h) (head_of rest)).out ++ go_on c p (step_of c p o (Some h) (head_of rest)).piece (λ g. walk_of c p (step_of c p o (Some h) (head_of rest)).offset g (tail_of rest))
 walk-next c p o h [] = refl
 walk-next c p o h (x ∷ xs) = refl
 
@@ -91,18 +82,16 @@ going-starts means exact entry c p cs h v = record {
   filled = fill_none means exact entry;
   whole = refl;
   fits = omega (arith, weights-fit cs, v.new_fits, v.old_fits);
+  follows = (0, v.follows);
 }
 
 module _ {R : Type 0} (means : R → Piece) (exact : R → Type 0) (entry : List R) (c p : Source) (cs : List Change) (h : Piece)
     (out : List R) (used : ℕ) (o : Offset) (g : Piece) (rest : List Change) (on : Going means exact entry c p cs h out used o (Some g) rest) where
   abbrev pub next : Told
-  next = step_of c p o true g (head_of rest)
+  next = step_of c p o (Some g) (head_of rest)
 
   whole-next : (on.ready ++ next.out) ++ go_on c p next.piece (λ b. walk_of c p next.offset b (tail_of rest)) ≡ walk_of c p (Added 0) h cs
   whole-next = append_assoc on.ready next.out _ ∙ sym (ap (λ l. on.ready ++ l) (walk-next c p o g rest)) ∙ on.whole
-
-  pub going-fits : size_of o + weight (head_of rest) < 2 ^ 32
-  going-fits = omega (arith, on.fits, weights-next rest)
 
   pub going-room : used + length next.out ≤ length (walk_of c p (Added 0) h cs)
   going-room =
@@ -123,24 +112,20 @@ module _ {R : Type 0} (means : R → Piece) (exact : R → Type 0) (entry : List
     filled = f on.ready on.used-is on.filled;
     whole = rw (e, l, w) whole-next;
     fits = omega (arith, s, on.fits, weights-next rest);
+    follows = goes-tail rest on.follows;
   }
-
--- .. with a hunk that is live
-pub going-live : {R : Type 0} (means : R → Piece) (exact : R → Type 0) (entry : List R) (c p : Source) (cs : List Change) (h : Piece)
-    (out : List R) (used : ℕ) (o : Offset) (g : Piece) (rest : List Change) (b : Bool) → b ≡ true → Going means exact entry c p cs h out used o (cond b (Some g) None) rest
-    → Going means exact entry c p cs h out used o (Some g) rest
-going-live means exact entry c p cs h out used o g rest b e on = subst (λ v. Going means exact entry c p cs h out used o (cond v (Some g) None) rest) e on
 
 -- .. once the changes are passed that leave the hunk as it is
 pub going-caught : {R : Type 0} (means : R → Piece) (exact : R → Type 0) (entry : List R) (c p : Source) (cs : List Change) (h : Piece)
-    (out : List R) (used : ℕ) (o o' : Offset) (g : Piece) (i j : ℕ) → Going means exact entry c p cs h out used o (Some g) (drop i cs) → Caught c g cs i j o o'
-    → Going means exact entry c p cs h out used o' (Some g) (drop j cs)
-going-caught means exact entry c p cs h out used o o' g i j on k = record {
+    (out : List R) (used : ℕ) (o o' : Offset) (g : Piece) (left rest : List Change) → Going means exact entry c p cs h out used o (Some g) left → Caught c g left rest o o'
+    → Going means exact entry c p cs h out used o' (Some g) rest
+going-caught means exact entry c p cs h out used o o' g left rest on k = record {
   ready = on.ready;
   used-is = on.used-is;
   filled = on.filled;
   whole = sym (ap (λ l. on.ready ++ l) (k.same p)) ∙ on.whole;
   fits = omega (arith, on.fits, k.lighter);
+  follows = k.follows;
 }
 
 -- at the end all pieces are written
@@ -150,12 +135,3 @@ pub going-ends : {R : Type 0} (means : R → Piece) (exact : R → Type 0) (entr
 going-ends means exact entry c p cs h out used o rest ps on e =
     let q : on.ready ≡ ps = sym (append-nil on.ready) ∙ on.whole ∙ e in
     (on.used-is ∙ ap length q, subst (λ l. Filled means exact entry l out) q on.filled)
-
--- a walker that leaves nothing is not live; and a last step leaves nothing
-pub dead : (b : Bool) (h : Piece) → cond b (Some h) None ≡ None → b ≡ false
-dead true h e = let z : ◌≡◌ {A = ℕ} 0 1 = cc in absurd (omega arith)
-dead false h e = refl
-
-pub at_most : (b : Bool) → cond b 1 0 ≤ 1
-at_most true = omega arith
-at_most false = omega arith

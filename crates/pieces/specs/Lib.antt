@@ -1,4 +1,5 @@
 pub mod Pieces
+pub mod Comparisons
 pub mod ByLine
 pub mod Cases
 pub mod Counts

@@ -1,5 +1,5 @@
 -- The walk of one hunk along a change list: what one step makes of the hunk at hand and the change at hand. Assumes nothing.
-use Rattle.std.specs.Prelude.{ℕ, Bool, true, false, cond, ◌&&◌, List, [], ◌∷◌, ◌++◌, Some, None, Option, nat_le, nat_lt}
+use Rattle.std.specs.Prelude.{ℕ, Bool, cond, ◌&&◌, List, [], ◌∷◌, ◌++◌, Some, None, Option, nat_le, nat_lt}
 use Rattle.std.specs.Option.{unwrap_or}
 use Rattle.change.specs.declared.span.Span.{Span}
 use Rattle.change.specs.declared.change.Change.{Change}
@@ -74,16 +74,16 @@ module _ (c p : Source) where
       (cond (nat_lt l r.end) (starting o h (cut c l h) (λ ps g. told (Some g) None ps (minus o k)))
       (told None (Some (Deleted l k)) (moves o h ∷ []) o))
 
-  -- one step, for a hunk that is at hand or done with
-  abbrev pub step_of : Offset → Bool → Piece → Option Change → Told
-  step_of o true h (Some (Unchanged u)) = at_unchanged o u (range_in c h) h
-  step_of o true h (Some (AddedOrReplaced a k)) = at_added o a k (range_in c h) h
-  step_of o true h (Some (Deleted l k)) = at_deleted o l k (range_in c h) h
-  step_of o true h None = told None None (moves o h ∷ []) o
-  step_of o false h (Some (Unchanged u)) = told None None [] o
-  step_of o false h (Some (AddedOrReplaced a k)) = told None None [] (passing o a k)
-  step_of o false h (Some (Deleted l k)) = told None None [] (minus o k)
-  step_of o false h None = told None None [] o
+  -- one step, for the hunk that is at hand, or for none
+  abbrev pub step_of : Offset → Option Piece → Option Change → Told
+  step_of o (Some h) (Some (Unchanged u)) = at_unchanged o u (range_in c h) h
+  step_of o (Some h) (Some (AddedOrReplaced a k)) = at_added o a k (range_in c h) h
+  step_of o (Some h) (Some (Deleted l k)) = at_deleted o l k (range_in c h) h
+  step_of o (Some h) None = told None None (moves o h ∷ []) o
+  step_of o None (Some (Unchanged u)) = told None None [] o
+  step_of o None (Some (AddedOrReplaced a k)) = told None None [] (passing o a k)
+  step_of o None (Some (Deleted l k)) = told None None [] (minus o k)
+  step_of o None None = told None None [] o
 
   -- the walk along the list until the hunk is done with
   abbrev pub go_on : Option Piece → (Piece → List Piece) → List Piece
@@ -91,6 +91,6 @@ module _ (c p : Source) where
   go_on (Some h) rest = rest h
 
   abbrev pub walk_of : Offset → Piece → List Change → List Piece
-  walk_of o h [] = (step_of o true h None).out
+  walk_of o h [] = (step_of o (Some h) None).out
   walk_of o h (x ∷ xs) =
-      (step_of o true h (Some x)).out ++ go_on (step_of o true h (Some x)).piece (λ g. walk_of (step_of o true h (Some x)).offset g xs)
+      (step_of o (Some h) (Some x)).out ++ go_on (step_of o (Some h) (Some x)).piece (λ g. walk_of (step_of o (Some h) (Some x)).offset g xs)

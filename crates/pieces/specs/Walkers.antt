@@ -1,17 +1,13 @@
--- A walker and what a step requeues, as pieces. Assumes nothing.
-use Rattle.std.specs.Prelude.{ℕ, ◌+◌, cond, List, [], ◌∷◌, Some, None, Option}
+-- What a step requeues, as pieces; and by how much changes move an offset. Assumes nothing.
+use Rattle.std.specs.Prelude.{ℕ, ◌+◌, List, [], ◌∷◌, Some, None, Option}
 use Rattle.change.specs.declared.span.Span.{Span}
 use Rattle.change.specs.declared.change.Change.{Change}
 use Rattle.change.specs.declared.change.Change.TheVariants.{Unchanged, AddedOrReplaced, Deleted}
 use Rattle.change.specs.Lists.{lines}
 use Rattle.hunk.specs.Hunks.{Piece}
 use Rattle.hunk.specs.Rows.{piece_of}
-use Rattle.pieces.specs.declared.walk.Walker.{Walker}
 use Rattle.pieces.specs.declared.walk.Requeued.{Requeued}
 use Rattle.pieces.specs.declared.walk.Requeued.TheVariants.{Nothing, One, Two}
-
-abbrev pub remains : Walker → Option Piece
-remains w = cond w.live (Some (piece_of w.hunk)) None
 
 abbrev pub pieces_of : Requeued → List Piece
 pieces_of Nothing = []
@@ -32,7 +28,11 @@ abbrev pub weights : List Change → ℕ
 weights [] = 0
 weights (x ∷ xs) = weight (Some x) + weights xs
 
--- the change at hand, if one is left
+-- the change at hand, if one is left, and those behind it
 abbrev pub head_of : List Change → Option Change
 head_of [] = None
 head_of (x ∷ xs) = Some x
+
+abbrev pub tail_of : List Change → List Change
+tail_of [] = []
+tail_of (x ∷ xs) = xs

@@ -1,4 +1,7 @@
+ghost use Rattle.std.specs.Prelude.{◌≡◌};
 ghost use Rattle.pieces.specs.Faults.{list_number, list_name, process_number, process_name};
+ghost use Rattle.pieces.specs.declared.fault.ListFault.TheVariants.{BadList as Bad};
+ghost use Rattle.pieces.specs.declared.fault.ProcessFault.TheVariants.{List as OfList};
 
 use change::list::BadList;
 use change::refusal::Refusal;
@@ -23,6 +26,22 @@ pub enum ProcessFault {
     HunkOutside(usize),
     // There is no room for all pieces.
     HunksFull,
+}
+
+impl From<BadList> for ListFault {
+    ghost from_gives = { λ b f. f ≡ Bad b };
+
+    fn from(bad: BadList) -> ListFault {
+        ListFault::BadList(bad)
+    }
+}
+
+impl From<ListFault> for ProcessFault {
+    ghost from_gives = { λ f p. p ≡ OfList f };
+
+    fn from(refused: ListFault) -> ProcessFault {
+        ProcessFault::List(refused)
+    }
 }
 
 impl Refusal for ListFault {

@@ -3,6 +3,7 @@
 
 #![tactic(auto)]
 
+mod comparison;
 pub mod count;
 pub mod fault;
 pub mod judge;

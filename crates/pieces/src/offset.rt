@@ -1,8 +1,9 @@
-ghost use Rattle.std.specs.Prelude.{◌≡◌, ◌+◌, ◌^◌, ◌<◌, ◌≤◌};
+ghost use Rattle.std.specs.Prelude.{◌≡◌, ◌+◌, ◌^◌, ◌<◌};
 ghost use Rattle.pieces.specs.Offsets.{size_of, plus, minus, shifted, shifted_range};
 
 use change::list::FILE_LIMIT;
 use change::span::Span;
+use std::ops::{AddAssign, SubAssign};
 
 // How far lines of the commit stand from their place in the parent: by lines
 // added before them, or by lines deleted before them.
@@ -13,42 +14,6 @@ pub enum Offset {
 }
 
 impl Offset {
-    // With so many lines added.
-    pub(crate) fn add_assign(&mut self, lines: u32)
-        requires { size_of self.old + lines < 2 ^ 32 }
-        ensures is { self.new ≡ plus self.old lines }
-        ensures size { size_of self.new ≤ size_of self.old + lines }
-    {
-        match *self {
-            Offset::Added(added) => *self = Offset::Added(added + lines),
-            Offset::Deleted(deleted) => {
-                if lines > deleted {
-                    *self = Offset::Added(lines - deleted);
-                } else {
-                    *self = Offset::Deleted(deleted - lines);
-                }
-            }
-        }
-    }
-
-    // With so many lines deleted.
-    pub(crate) fn sub_assign(&mut self, lines: u32)
-        requires { size_of self.old + lines < 2 ^ 32 }
-        ensures is { self.new ≡ minus self.old lines }
-        ensures size { size_of self.new ≤ size_of self.old + lines }
-    {
-        match *self {
-            Offset::Added(added) => {
-                if lines > added {
-                    *self = Offset::Deleted(lines - added);
-                } else {
-                    *self = Offset::Added(added - lines);
-                }
-            }
-            Offset::Deleted(deleted) => *self = Offset::Deleted(deleted + lines),
-        }
-    }
-
     // The place in the parent of a line, if there is one.
     pub fn shifted(self, line: u32) -> Option<u32>
         ensures { result ≡ shifted self line }
@@ -63,7 +28,7 @@ impl Offset {
     pub fn shifted_range(self, range: Span) -> Option<Span>
         ensures { result ≡ shifted_range self range }
     {
-        let size = range.end.saturating_sub(range.start);
+        let size = range.len();
         let start = self.shifted(range.start)?;
         if size <= FILE_LIMIT && start <= FILE_LIMIT - size {
             Some(Span {
@@ -73,5 +38,35 @@ impl Offset {
         } else {
             None
         }
+    }
+}
+
+// So many lines more are added.
+impl AddAssign<u32> for Offset {
+    ghost can_add_assign = { λ o n. size_of o + n < 2 ^ 32 };
+
+    ghost add_assign_gives = { λ o n r. r ≡ plus o n };
+
+    fn add_assign(&mut self, lines: u32) {
+        *self = match *self {
+            Offset::Added(added) => Offset::Added(added + lines),
+            Offset::Deleted(deleted) if lines > deleted => Offset::Added(lines - deleted),
+            Offset::Deleted(deleted) => Offset::Deleted(deleted - lines),
+        };
+    }
+}
+
+// So many lines more are deleted.
+impl SubAssign<u32> for Offset {
+    ghost can_sub_assign = { λ o n. size_of o + n < 2 ^ 32 };
+
+    ghost sub_assign_gives = { λ o n r. r ≡ minus o n };
+
+    fn sub_assign(&mut self, lines: u32) {
+        *self = match *self {
+            Offset::Added(added) if lines > added => Offset::Deleted(lines - added),
+            Offset::Added(added) => Offset::Added(added - lines),
+            Offset::Deleted(deleted) => Offset::Deleted(deleted + lines),
+        };
     }
 }

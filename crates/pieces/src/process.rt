@@ -3,11 +3,10 @@ ghost use Rattle.hunk.specs.Rows.{read_row};
 ghost use Rattle.pieces.specs.Process.{process_of, table_of, count_of};
 ghost use Rattle.pieces.specs.Answers.{Answered};
 
-use crate::count::pieces_fit;
+use crate::comparison::Comparison;
 use crate::fault::ProcessFault;
-use crate::judge::{first_no_hunk, first_outside, judge_list};
+use crate::judge::{first_no_hunk, first_outside, judged};
 use crate::table::TableRow;
-use crate::write::write_all;
 use change::change::Change;
 use hunk::row::HunkRow;
 use hunk::source::Source;
@@ -32,20 +31,22 @@ pub fn cut_hunks<R: TableRow>(
     if let Some(row) = first_no_hunk(rows) {
         return Err(ProcessFault::EmptyRange(row));
     }
-    if suspect.is(parent) {
+    if suspect == parent {
         return Err(ProcessFault::SameCommit);
     }
-    let totals = match judge_list(changes) {
-        Ok(totals) => totals,
-        Err(fault) => return Err(ProcessFault::List(fault)),
-    };
-    if let Some(row) = first_outside(rows, suspect, totals.new) {
+    let list = judged(changes)?;
+    if let Some(row) = first_outside(rows, suspect, list.totals.new) {
         return Err(ProcessFault::HunkOutside(row));
     }
-    if !pieces_fit(rows, changes, suspect, limit.min(out.len())) {
+    let comparison = Comparison {
+        list,
+        suspect,
+        parent,
+    };
+    if !comparison.pieces_fit(rows, limit.min(out.len())) {
         return Err(ProcessFault::HunksFull);
     }
-    Ok(write_all(rows, changes, suspect, parent, out))
+    Ok(comparison.write_all(rows, out))
 }
 
 // The same on plain rows, for up to 256 pieces. The table is filled from its

@@ -16,7 +16,7 @@ impl TableRow for HunkRow {
     ghost reads = { read_row };
 
     fn written(hunk: UnblamedHunk) -> HunkRow {
-        hunk.row()
+        HunkRow::from(hunk)
     }
 
     fn read(&self) -> Option<UnblamedHunk> {
@@ -50,20 +50,5 @@ impl TableRow for UnblamedHunk {
 
     fn read(&self) -> Option<UnblamedHunk> {
         Some(*self)
-    }
-
-    fn is_hunk(&self) -> bool {
-        true
-    }
-
-    fn range_of(&self, source: Source) -> Option<Span> {
-        self.get_range(source)
-    }
-
-    fn renamed(&self, from: Source, to: Source, range: Span) -> UnblamedHunk {
-        match self.passed_blame(from, to, range.start) {
-            Some(hunk) => hunk,
-            None => *self,
-        }
     }
 }

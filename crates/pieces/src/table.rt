@@ -10,7 +10,8 @@ use change::span::Span;
 use hunk::hunk::UnblamedHunk;
 use hunk::source::Source;
 
-// A row of a table of hunks: it can be read as a hunk, and written of one.
+// A row of a table of hunks: it can be read as a hunk, and written of one. `From`
+// would be no plainer than `written`: a bound tells what it gives by a law alone.
 pub trait TableRow: Copy {
     ghost means: { Self → Piece };
 
@@ -43,17 +44,18 @@ pub trait TableRow: Copy {
     fn renamed(&self, from: Source, to: Source, range: Span) -> Self
         ensures { (h : Piece) → reads self.now ≡ Some h → Renames from to range h → (means result ≡ passed from to range.start h) × exact result }
     {
-        match self.read() {
-            Some(hunk) => match hunk.passed_blame(from, to, range.start) {
-                Some(passed) => Self::written(passed),
-                None => *self,
-            },
+        let passed = self
+            .read()
+            .and_then(|hunk| hunk.passed_blame(from, to, range.start));
+        match passed {
+            Some(hunk) => Self::written(hunk),
             None => *self,
         }
     }
 }
 
-// Writes the hunk into the row behind those in use.
+// Writes the hunk into the row behind those in use. The table is the caller's and
+// is filled without heap, so how many rows are in use is told beside it.
 fn put<R: TableRow>(out: &mut [R], used: usize, hunk: UnblamedHunk)
     requires { used < length out.old }
     ensures { (entry : List R) (ps : List Piece) → used ≡ length ps → Filled R.TableRow.means R.TableRow.exact entry ps out.old

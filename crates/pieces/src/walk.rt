@@ -1,24 +1,18 @@
-ghost use Rattle.std.specs.Prelude.{◌≡◌, ◌+◌, ◌^◌, ◌<◌, ◌≤◌, true, false, is_some, Some, None};
+ghost use Rattle.std.specs.Prelude.{◌≡◌, ◌+◌, ◌^◌, ◌<◌, ◌≤◌, Some, None, IsSome};
+ghost use Rattle.std.specs.Option.{option_map};
 ghost use Rattle.hunk.specs.Rows.{piece_of};
 ghost use Rattle.pieces.specs.Offsets.{size_of};
-ghost use Rattle.pieces.specs.Steps.{moves, holds, ends_in, passing, step_of};
-ghost use Rattle.pieces.specs.Walkers.{remains, pieces_of, weight_of, weight};
+ghost use Rattle.pieces.specs.Steps.{moves, holds, ends_in, step_of};
+ghost use Rattle.pieces.specs.Walkers.{pieces_of, weight};
 
 use crate::offset::Offset;
 use change::change::Change;
 use change::span::Span;
+use either::Either;
 use hunk::hunk::UnblamedHunk;
 use hunk::source::Source;
-use hunk::split::Either;
 
-// The hunk at hand: what is left of it while it is live.
-#[derive(Clone, Copy)]
-pub struct Walker {
-    pub live: bool,
-    pub hunk: UnblamedHunk,
-}
-
-// The pieces that a step is done with.
+// The pieces that a step is done with: two at most, without heap.
 #[derive(Clone, Copy)]
 pub enum Requeued {
     Nothing,
@@ -29,7 +23,7 @@ pub enum Requeued {
 // What a step leaves: the hunk and the change still at hand, and the pieces.
 #[derive(Clone, Copy)]
 pub struct Step {
-    pub walker: Walker,
+    pub hunk: Option<UnblamedHunk>,
     pub change: Option<Change>,
     pub requeued: Requeued,
 }
@@ -51,45 +45,29 @@ fn actual_end_in_range(test: Span, range: Span) -> bool
 fn passed(hunk: UnblamedHunk, suspect: Source, parent: Source, offset: Offset) -> UnblamedHunk
     ensures { piece_of result ≡ moves suspect parent offset (piece_of hunk) }
 {
-    let Some(range) = hunk.get_range(suspect) else {
-        return hunk;
-    };
-    let Some(start) = offset.shifted(range.start) else {
-        return hunk;
-    };
-    let Some(passed) = hunk.passed_blame(suspect, parent, start) else {
-        return hunk;
-    };
-    passed
-}
-
-// The offset behind an added or replaced range.
-pub(crate) fn pass_added(offset: &mut Offset, added: Span, deleted: u32)
-    requires { size_of offset.old + (weight_of added deleted) < 2 ^ 32 }
-    ensures is { offset.new ≡ passing offset.old added deleted }
-    ensures size { size_of offset.new ≤ size_of offset.old + weight_of added deleted }
-{
-    offset.add_assign(added.end.saturating_sub(added.start));
-    offset.sub_assign(deleted);
+    hunk.get_range(suspect)
+        .and_then(|range| offset.shifted(range.start))
+        .and_then(|start| hunk.passed_blame(suspect, parent, start))
+        .unwrap_or(hunk)
 }
 
 // The hunk is still at hand, and the change is used up.
 fn keep(hunk: UnblamedHunk, requeued: Requeued) -> Step
-    ensures { (result.walker.live ≡ true) × (result.walker.hunk ≡ hunk) × (result.change ≡ None) × (result.requeued ≡ requeued) }
+    ensures { (result.hunk ≡ Some hunk) × (result.change ≡ None) × (result.requeued ≡ requeued) }
 {
     Step {
-        walker: Walker { live: true, hunk },
+        hunk: Some(hunk),
         change: None,
         requeued,
     }
 }
 
 // The hunk is done with; the change may matter to the next one.
-fn done(hunk: UnblamedHunk, change: Option<Change>, requeued: Requeued) -> Step
-    ensures { (result.walker.live ≡ false) × (result.change ≡ change) × (result.requeued ≡ requeued) }
+fn done(change: Option<Change>, requeued: Requeued) -> Step
+    ensures { (result.hunk ≡ None) × (result.change ≡ change) × (result.requeued ≡ requeued) }
 {
     Step {
-        walker: Walker { live: false, hunk },
+        hunk: None,
         change,
         requeued,
     }
@@ -97,30 +75,31 @@ fn done(hunk: UnblamedHunk, change: Option<Change>, requeued: Requeued) -> Step
 
 // The suspect has nothing to do with the hunk, which is requeued as it came.
 fn untouched(hunk: UnblamedHunk, change: Change) -> Step
-    ensures { (result.walker.live ≡ false) × (result.change ≡ Some change) × (result.requeued ≡ Requeued.One hunk) }
+    ensures { (result.hunk ≡ None) × (result.change ≡ Some change) × (result.requeued ≡ Requeued.One hunk) }
 {
-    done(hunk, Some(change), Requeued::One(hunk))
+    done(Some(change), Requeued::One(hunk))
 }
 
 // Compares the hunk at hand with the change at hand. What is decided of the hunk
 // is requeued as pieces; what may still meet a later change stays at hand.
+#[tactic(auto, using(crate::proofs::Shifts::plus_size, crate::proofs::Shifts::minus_size))]
 pub(crate) fn process_change(
     offset: &mut Offset,
     suspect: Source,
     parent: Source,
-    walker: Walker,
+    hunk: Option<UnblamedHunk>,
     change: Option<Change>,
 ) -> Step
     requires { size_of offset.old + weight change < 2 ^ 32 }
     ensures size { size_of offset.new ≤ size_of offset.old + weight change }
-    ensures settles { result.walker.live ≡ true → is_some result.change ≡ false }
-    ensures piece { remains result.walker ≡ (step_of suspect parent offset.old walker.live (piece_of walker.hunk) change).piece }
-    ensures change { result.change ≡ (step_of suspect parent offset.old walker.live (piece_of walker.hunk) change).change }
-    ensures pieces { pieces_of result.requeued ≡ (step_of suspect parent offset.old walker.live (piece_of walker.hunk) change).out }
-    ensures offset { offset.new ≡ (step_of suspect parent offset.old walker.live (piece_of walker.hunk) change).offset }
+    ensures settles { IsSome result.hunk → result.change ≡ None }
+    ensures piece { option_map piece_of result.hunk ≡ (step_of suspect parent offset.old (option_map piece_of hunk) change).piece }
+    ensures change { result.change ≡ (step_of suspect parent offset.old (option_map piece_of hunk) change).change }
+    ensures pieces { pieces_of result.requeued ≡ (step_of suspect parent offset.old (option_map piece_of hunk) change).out }
+    ensures offset { offset.new ≡ (step_of suspect parent offset.old (option_map piece_of hunk) change).offset }
 {
-    match (walker, change) {
-        (Walker { live: true, hunk }, Some(Change::Unchanged(unchanged))) => {
+    match (hunk, change) {
+        (Some(hunk), Some(Change::Unchanged(unchanged))) => {
             let Some(range) = hunk.get_range(suspect) else {
                 return untouched(hunk, Change::Unchanged(unchanged));
             };
@@ -131,7 +110,6 @@ pub(crate) fn process_change(
                 // Changes come right behind it.
                 (_, true) => keep(hunk, Requeued::Nothing),
                 (true, false) => done(
-                    hunk,
                     Some(Change::Unchanged(unchanged)),
                     Requeued::One(passed(hunk, suspect, parent, *offset)),
                 ),
@@ -141,7 +119,6 @@ pub(crate) fn process_change(
                         keep(hunk, Requeued::Nothing)
                     } else {
                         done(
-                            hunk,
                             Some(Change::Unchanged(unchanged)),
                             Requeued::One(passed(hunk, suspect, parent, *offset)),
                         )
@@ -149,7 +126,7 @@ pub(crate) fn process_change(
                 }
             }
         }
-        (Walker { live: true, hunk }, Some(Change::AddedOrReplaced(added, deleted))) => {
+        (Some(hunk), Some(Change::AddedOrReplaced(added, deleted))) => {
             let Some(range) = hunk.get_range(suspect) else {
                 return untouched(hunk, Change::AddedOrReplaced(added, deleted));
             };
@@ -159,18 +136,20 @@ pub(crate) fn process_change(
             ) {
                 (true, true) => match hunk.split_at(suspect, added.start) {
                     Either::Left(hunk) => {
-                        pass_added(offset, added, deleted);
+                        *offset += added.len();
+                        *offset -= deleted;
                         match hunk.split_at(suspect, added.end) {
-                            Either::Left(hunk) => done(hunk, None, Requeued::One(hunk)),
-                            Either::Right(blamed, after) => keep(after, Requeued::One(blamed)),
+                            Either::Left(hunk) => done(None, Requeued::One(hunk)),
+                            Either::Right((blamed, after)) => keep(after, Requeued::One(blamed)),
                         }
                     }
-                    Either::Right(before, after) => {
+                    Either::Right((before, after)) => {
                         let moved = passed(before, suspect, parent, *offset);
-                        pass_added(offset, added, deleted);
+                        *offset += added.len();
+                        *offset -= deleted;
                         match after.split_at(suspect, added.end) {
-                            Either::Left(hunk) => done(hunk, None, Requeued::Two(moved, hunk)),
-                            Either::Right(blamed, after) => keep(
+                            Either::Left(hunk) => done(None, Requeued::Two(moved, hunk)),
+                            Either::Right((blamed, after)) => keep(
                                 after,
                                 Requeued::Two(moved, blamed),
                             ),
@@ -179,39 +158,37 @@ pub(crate) fn process_change(
                 },
                 (true, false) => match hunk.split_at(suspect, added.start) {
                     Either::Left(hunk) => done(
-                        hunk,
                         Some(Change::AddedOrReplaced(added, deleted)),
                         Requeued::One(hunk),
                     ),
-                    Either::Right(before, after) => {
+                    Either::Right((before, after)) => {
                         let before = passed(before, suspect, parent, *offset);
                         done(
-                            after,
                             Some(Change::AddedOrReplaced(added, deleted)),
                             Requeued::Two(before, after),
                         )
                     }
                 },
                 (false, true) => {
-                    pass_added(offset, added, deleted);
+                    *offset += added.len();
+                    *offset -= deleted;
                     match hunk.split_at(suspect, added.end) {
-                        Either::Left(hunk) => done(hunk, None, Requeued::One(hunk)),
-                        Either::Right(blamed, after) => keep(after, Requeued::One(blamed)),
+                        Either::Left(hunk) => done(None, Requeued::One(hunk)),
+                        Either::Right((blamed, after)) => keep(after, Requeued::One(blamed)),
                     }
                 }
                 (false, false) => {
                     if added.end <= range.start {
-                        pass_added(offset, added, deleted);
+                        *offset += added.len();
+                        *offset -= deleted;
                         keep(hunk, Requeued::Nothing)
                     } else if range.end <= added.start {
                         done(
-                            hunk,
                             Some(Change::AddedOrReplaced(added, deleted)),
                             Requeued::One(passed(hunk, suspect, parent, *offset)),
                         )
                     } else {
                         done(
-                            hunk,
                             Some(Change::AddedOrReplaced(added, deleted)),
                             Requeued::One(hunk),
                         )
@@ -219,51 +196,43 @@ pub(crate) fn process_change(
                 }
             }
         }
-        (Walker { live: true, hunk }, Some(Change::Deleted(line, deleted))) => {
+        (Some(hunk), Some(Change::Deleted(line, deleted))) => {
             let Some(range) = hunk.get_range(suspect) else {
                 return untouched(hunk, Change::Deleted(line, deleted));
             };
             if line < range.start {
-                offset.sub_assign(deleted);
+                *offset -= deleted;
                 keep(hunk, Requeued::Nothing)
             } else if line < range.end {
                 match hunk.split_at(suspect, line) {
                     Either::Left(hunk) => {
-                        offset.sub_assign(deleted);
+                        *offset -= deleted;
                         keep(hunk, Requeued::Nothing)
                     }
-                    Either::Right(before, after) => {
+                    Either::Right((before, after)) => {
                         let before = passed(before, suspect, parent, *offset);
-                        offset.sub_assign(deleted);
+                        *offset -= deleted;
                         keep(after, Requeued::One(before))
                     }
                 }
             } else {
                 done(
-                    hunk,
                     Some(Change::Deleted(line, deleted)),
                     Requeued::One(passed(hunk, suspect, parent, *offset)),
                 )
             }
         }
-        (Walker { live: true, hunk }, None) => done(
-            hunk,
-            None,
-            Requeued::One(passed(hunk, suspect, parent, *offset)),
-        ),
-        (Walker { live: false, hunk }, Some(Change::Unchanged(_))) => done(
-            hunk,
-            None,
-            Requeued::Nothing,
-        ),
-        (Walker { live: false, hunk }, Some(Change::AddedOrReplaced(added, deleted))) => {
-            pass_added(offset, added, deleted);
-            done(hunk, None, Requeued::Nothing)
+        (Some(hunk), None) => done(None, Requeued::One(passed(hunk, suspect, parent, *offset))),
+        (None, Some(Change::Unchanged(_))) => done(None, Requeued::Nothing),
+        (None, Some(Change::AddedOrReplaced(added, deleted))) => {
+            *offset += added.len();
+            *offset -= deleted;
+            done(None, Requeued::Nothing)
         }
-        (Walker { live: false, hunk }, Some(Change::Deleted(_, deleted))) => {
-            offset.sub_assign(deleted);
-            done(hunk, None, Requeued::Nothing)
+        (None, Some(Change::Deleted(_, deleted))) => {
+            *offset -= deleted;
+            done(None, Requeued::Nothing)
         }
-        (Walker { live: false, hunk }, None) => done(hunk, None, Requeued::Nothing),
+        (None, None) => done(None, Requeued::Nothing),
     }
 }

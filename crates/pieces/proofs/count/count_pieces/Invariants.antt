@@ -6,5 +6,5 @@ use Rattle.pieces.proofs.count.count_pieces.Given as goal
 
 abbrev pub invariant-loop-change : goal.invariant-loop-change
 invariant-loop-change l =
-    (total l.so_far l.range.end (cuts (drop l.change-index l.changes)) ≡ 1 + inside_from l.range.start l.range.end (cuts l.changes))
+    (total l.so_far l.range.end (cuts (drop l.change-index l.list.changes.now)) ≡ 1 + inside_from l.range.start l.range.end (cuts l.list.changes.now))
     × (l.so_far.count ≤ 1 + 2 * l.change-index)

@@ -1,9 +1,9 @@
-use Rattle.std.proofs.Common.{◌-◌, length}
+use Rattle.std.proofs.Common.{length}
 use Rattle.pieces.specs.Skips.{Skipped}
 use Rattle.pieces.proofs.skip.skip.Given as goal
 
-abbrev pub invariant-loop-next : goal.invariant-loop-next
-invariant-loop-next l = Skipped l.changes l.range l.from l.next l.initial.offset l.offset
+abbrev pub invariant-loop-left : goal.invariant-loop-left
+invariant-loop-left l = Skipped l.range l.changes l.left l.initial.offset l.offset
 
-abbrev pub decreases-loop-next : goal.decreases-loop-next
-decreases-loop-next l = length l.changes - l.next
+abbrev pub decreases-loop-left : goal.decreases-loop-left
+decreases-loop-left l = length l.left

@@ -5,5 +5,5 @@ use Rattle.pieces.proofs.rows.HunkRowTableRow.written.Goals as goal
 
 pub returns : goal.returns
 returns c =
-    let m = ap row_piece c.row.ensures ∙ row_back (piece_of c.args.hunk) in
-    record { means = m; exact = c.row.ensures ∙ sym (ap row_of m) }
+    let m = ap row_piece c.from.ensures ∙ row_back (piece_of c.args.hunk) in
+    record { means = m; exact = c.from.ensures ∙ sym (ap row_of m) }
