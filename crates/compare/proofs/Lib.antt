@@ -1,2 +1,1 @@
-pub mod Shorter
 pub mod Reading

@@ -37,9 +37,10 @@ fn read_part<T: Item>(
     };
     let mut items = Vec::new(heap);
     for _ in 0..size {
-        let Some((item, behind)) = T::read(rest) else {
+        let Some(read) = T::read(rest) else {
             return Err(Unmade::Refused(NoCase));
         };
+        let (item, behind) = read;
         items.push(item)?;
         rest = behind;
     }

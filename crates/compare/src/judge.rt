@@ -32,7 +32,13 @@ pub fn verdict_on(written: Vec<HunkRow>, expected: &[HunkRow]) -> Verdict
 // Runs the case on a fresh table.
 pub fn judge(heap: Global, case: &Case) -> Result<Verdict, AllocError> {
     let mut out = vec![in heap; HunkRow::default(); TABLE]?;
-    match process_changes(&case.rows, &case.changes, case.suspect, case.parent, &mut out) {
+    match process_changes(
+        &case.rows,
+        &case.changes,
+        case.suspect,
+        case.parent,
+        &mut out,
+    ) {
         Ok(used) => {
             out.truncate(used);
             Ok(verdict_on(out, &case.expected))

@@ -58,7 +58,8 @@ impl fmt::Display for Tally {
             no_case,
         } = *self;
         let cases = agree.saturating_add(differ).saturating_add(refused);
-        write!(f,
+        write!(
+            f,
             "cases: {cases}, agree: {agree}, differ: {differ}, refused: {refused}, no case: {no_case}"
         )
     }

@@ -1,5 +1,5 @@
 -- The first line of a text and the lines behind it.
-use Rattle.std.proofs.Common.{◌≡◌, ◌==◌, refl, ℕ, suc, ◌+◌, ◌<◌, eqb, List, [], ◌∷◌, length, ap, inl, inr, arith}
+use Rattle.std.proofs.Common.{◌≡◌, ◌==◌, refl, ℕ, suc, ◌+◌, ◌<◌, ◌≤◌, eqb, List, [], ◌∷◌, length, ap, inl, inr, arith}
 use Rattle.std.specs.List.{before_first, after_first, position_or_len}
 use Rattle.std.proofs.lemmas.Bool.{cases_Bool}
 use Rattle.text.specs.Cuts.{line_of, rest_of, in_front, lines_of}
@@ -35,3 +35,17 @@ rest-shorter b (x ∷ xs) =
 pub lines-of-some : (s : List ℕ) → 0 < length s → lines_of s ≡ line_of s ∷ lines_of (rest_of s)
 lines-of-some [] h = absurd (omega arith)
 lines-of-some (b ∷ bs) h = lines_cut b bs
+
+-- a text has no more lines than bytes
+in-front-length : (b : ℕ) (ls : List (List ℕ)) → length (in_front b ls) ≤ 1 + length ls
+in-front-length b [] = omega arith
+in-front-length b (l ∷ ls) = omega arith
+
+pub few-lines : (s : List ℕ) → length (lines_of s) ≤ length s
+few-lines [] = omega arith
+few-lines (b ∷ bs) =
+    let more = few-lines bs in
+    elim (cases_Bool (eqb b 10)) [
+      | inl e ↦ rw e (omega (arith, more))
+      | inr e ↦ rw e (omega (arith, more, in-front-length b (lines_of bs)))
+    ]

@@ -3,5 +3,5 @@ use Rattle.compare.specs.Items.{more}
 use Rattle.compare.specs.Lines.{part_of}
 use Rattle.compare.proofs.case.read_part.Given as goal
 
-abbrev pub invariant-loop-i : goal.invariant-loop-i
-invariant-loop-i g l = more g.T.Item.reads (vec_items l.items) (l.size - l._i) l.rest ≡ part_of g.T.Item.reads l.letter l.text
+abbrev pub invariant-loop : goal.invariant-loop
+invariant-loop g l = more g.T.Item.reads (vec_items l.items) (l.size - l.counter) l.rest ≡ part_of g.T.Item.reads l.letter l.text

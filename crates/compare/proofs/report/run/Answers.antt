@@ -1,10 +1,9 @@
-use Rattle.std.proofs.Common.{◌<◌, length, sym, ◌∙◌, subst, arith}
-use Rattle.std.proofs.lemmas.Bool.{eqb-false}
-use Rattle.compare.proofs.Shorter.{shorter}
+use Rattle.std.proofs.Common.{inl, arith}
+use Rattle.text.proofs.Cutting.{few-lines}
 use Rattle.compare.proofs.report.run.Goals as goal
 
-pub loop-rest-smaller : goal.loop-rest-smaller
-loop-rest-smaller c =
-    let t = c.loop-rest.rest.now in
-    let h : 0 < length t = omega (arith, eqb-false _ _ (sym c.is_empty.ensures ∙ c.loop-rest-test.true)) in
-    subst (λ l. length l < length t) (sym c.first_line.ensures.rest) (shorter t h)
+pub loop-before-init : goal.loop-before-init
+loop-before-init c =
+    let few = few-lines c.args.text.now in
+    let e = c.enumerate-before-items.ensures in
+    ((tt, tt, inl (rw (c.into_iter-before-iterator.ensures.into_iter_gives, e.count, e.source) (omega (arith, few)))), tt)
