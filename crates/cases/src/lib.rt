@@ -7,8 +7,6 @@ ghost use Rattle.cases.specs.Cases.{CasesHold};
 
 // A hunk cut by a replacement, cut at a deletion, ending at one, and behind added
 // lines; ranges that touch and ranges apart; entries that join and entries that don't.
-pub fn cases_hold() -> u8
+pub fn cases_hold()
     ensures { CasesHold }
-{
-    0
-}
+{}

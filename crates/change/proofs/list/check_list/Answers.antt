@@ -1,7 +1,7 @@
 use Rattle.std.proofs.Common.{◌≡◌, ◌+◌, drop, Ok, Err, sym, ◌∙◌, subst}
 use Rattle.std.proofs.lemmas.List.{at_drop_more, at_drop_all}
 use Rattle.change.specs.Lists.{check_from, checked, Judged}
-use Rattle.change.proofs.Validity.{judged, check-stops, check-goes}
+use Rattle.change.proofs.Validity.{judged, check-stops}
 use Rattle.change.proofs.list.check_list.Goals as goal
 
 pub returns-in_default : goal.returns-in_default
@@ -13,16 +13,6 @@ returns-in_default c =
     ∙ sym (at_drop_more (check_from i c.loop-position.at) cs i _ c.loop-position-test.true)
     ∙ c.loop-position.invariant.0 in
     record { is = e; judged = subst (Judged cs) (sym e) (judged cs) }
-
-pub loop-position-preserved : goal.loop-position-preserved
-loop-position-preserved c =
-    let i = c.loop-position.position in
-    let cs = c.args.changes.now in (
-      sym (check-goes i c.loop-position.at c.in-Some.next _ (drop (i + 1) cs) (sym c.in-Some.ensures.is))
-          ∙ sym (at_drop_more (check_from i c.loop-position.at) cs i _ c.loop-position-test.true)
-          ∙ c.loop-position.invariant.0,
-      c.in-Some.ensures.within,
-    )
 
 pub returns : goal.returns
 returns c =

@@ -1,10 +1,10 @@
 use Rattle.std.proofs.Common.{◌≡◌, ℕ, ◌<◌, ◌≤◌, List, map, length, get_or, take, refl, ap, ◌∙◌, arith}
-use Rattle.std.proofs.lemmas.List.{get_or-take, length-set, length-take-le, take_all}
+use Rattle.std.proofs.lemmas.List.{get_or-take, length-take-le, take_all}
 use Rattle.hunk.specs.declared.suspect.Suspect.{Suspect}
 use Rattle.hunk.specs.declared.hunk.UnblamedHunk.{UnblamedHunk}
 use Rattle.hunk.specs.Hunks.{named}
 use Rattle.hunk.specs.Sound.{blank}
-use Rattle.hunk.proofs.Cuts.{fronts, backs, mapped-more, mapped_at, named-fronts, named-backs, same-piece, front-level, front-within, back_level, back-within, same-apart}
+use Rattle.hunk.proofs.Cuts.{fronts, backs, mapped_at, named-fronts, named-backs, same-piece, front-level, front-within, back_level, back-within, same-apart}
 use Rattle.hunk.proofs.split.halves.Goals as goal
 
 -- the suspects in use
@@ -23,18 +23,6 @@ every : (f : Suspect → Suspect) (h : UnblamedHunk) (xs : List Suspect) (n : �
 every f h xs n l p e =
     let q : h.count ≡ n = omega (arith, p, length-take-le h.count h.suspects l) in
     ap (λ m. take m xs) q ∙ e ∙ ap (map f) (take_all n (used h) (omega arith))
-
-pub loop-i-preserved : goal.loop-i-preserved
-loop-i-preserved c =
-    let few = length-take-le c.args.hunk.count c.args.hunk.suspects (omega arith) in
-    let hl : c.loop-i.i < length c.loop-i.before = omega (arith, few) in
-    let hr : c.loop-i.i < length c.loop-i.after = omega (arith, few) in
-    let hs = c.loop-i-test.true in (
-      mapped-more (fronts c.args.k) _ _ _ hl hs c.loop-i.invariant.0,
-      mapped-more (backs c.args.k) _ _ _ hr hs c.loop-i.invariant.1,
-      simp length-set c.loop-i.invariant.2,
-      simp length-set c.loop-i.invariant.3,
-    )
 
 pub invariant_of-before : goal.invariant_of-before
 invariant_of-before c =

@@ -1,13 +1,10 @@
-use Rattle.std.proofs.Common.{◌≡◌, ◌+◌, ◌<◌, false, [], ◌∷◌, ◌++◌, map, length, vec_items, sym, refl, ap, ◌∙◌, subst, arith}
-use Rattle.std.proofs.lemmas.Bool.{eqb-true, eqb-false}
-use Rattle.std.proofs.lemmas.List.{map_push, append-nil, nil_from_length}
+use Rattle.std.proofs.Common.{◌+◌, ◌<◌, [], ◌∷◌, ◌++◌, map, length, vec_items, sym, refl, ap, ◌∙◌, subst, arith}
+use Rattle.std.proofs.lemmas.Bool.{eqb-false}
+use Rattle.std.proofs.lemmas.List.{map_push}
 use Rattle.listing.specs.Entries.{entry_of, entry_at, Passed}
-use Rattle.listing.specs.Listings.{kind_of, kinds, recorded, other, lists_of, outside_of}
-use Rattle.listing.proofs.Passing.{between, between-as, between-blank, between-stray, between-list, shorter}
+use Rattle.listing.specs.Listings.{kind_of, kinds, recorded, other}
+use Rattle.listing.proofs.Passing.{between-as, between-blank, between-stray, between-list, shorter}
 use Rattle.listing.proofs.read.read.Goals as goal
-
-pub loop-at-init : goal.loop-at-init
-loop-at-init c = rw (c.new-lists.ensures.items, c.new-strays.ensures.items) (between c.args.text.now)
 
 pub loop-at-smaller-in_ok-push-in-Heading : goal.loop-at-smaller-in_ok-push-in-Heading
 loop-at-smaller-in_ok-push-in-Heading c =
@@ -72,11 +69,3 @@ loop-at-preserved c =
     between-as refl c.in_ok-push-in-Other.ensures.items c.first_line.ensures.rest
     (between-stray _ _ _ _ t c.loop-at.invariant h other refl refl (sym (ap kind_of c.first_line.ensures.line) ∙ sym c.in-Other.ensures))
 
-pub returns : goal.returns
-returns c =
-    let t = c.loop-at.at.rest.now in
-    let e : t ≡ [] = nil_from_length t (eqb-true _ _ (sym c.is_empty.ensures ∙ c.loop-at-test.false)) in
-    record {
-      lists = sym (append-nil _) ∙ ap (λ x. map entry_of (vec_items c.loop-at.lists) ++ lists_of c.loop-at.at.line (kinds x)) (sym e) ∙ c.loop-at.invariant.lists;
-      strays = sym (append-nil _) ∙ ap (λ x. vec_items c.loop-at.strays ++ outside_of c.loop-at.at.line false (kinds x)) (sym e) ∙ c.loop-at.invariant.outside;
-    }

@@ -1,13 +1,10 @@
 use Rattle.std.proofs.Common.{◌<◌, length, vec_items, sym, ap, ◌∙◌, subst, arith}
 use Rattle.std.proofs.lemmas.Bool.{eqb-true, eqb-false}
 use Rattle.listing.specs.Listings.{kind_of}
-use Rattle.listing.proofs.Passing.{Ended, entry-is, inside, inside-as, shorter, inside-change, inside-other, ended-text, ended-blank, ended-heading}
+use Rattle.listing.proofs.Passing.{Ended, entry-is, inside-as, shorter, inside-change, inside-other, ended-text, ended-blank, ended-heading}
 use Rattle.listing.proofs.read.read_list.Goals as goal
 use Rattle.listing.proofs.read.read_list.Goals.{in-Change+in_ok-push-in-Change, in-Other+in_ok-push-in-Other}
 use Rattle.listing.proofs.read.read_list.Goals.{else-loop-text-test, then-loop-text-test+in-Heading, then-loop-text-test+in-Blank}
-
-pub loop-text-init : goal.loop-text-init
-loop-text-init c = rw (c.new-changes.ensures.items, c.new-strays.ensures.items) (inside c.args.cursor.now.line c.args.cursor.now.rest.now)
 
 pub loop-text-smaller : goal.loop-text-smaller
 loop-text-smaller c =

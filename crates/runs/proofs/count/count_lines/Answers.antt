@@ -7,9 +7,6 @@ use Rattle.runs.proofs.Counting.{Counted, counted-here, count_fits, counted-unch
 use Rattle.runs.proofs.count.count_lines.Goals as goal
 use Rattle.runs.proofs.count.count_lines.Goals.{in-Unchanged, in-AddedOrReplaced, in-Deleted}
 
-pub loop-change-init : goal.loop-change-init
-loop-change-init c = record { keeps = omega arith; sets = omega arith; fits = c.in_ok-check_list.ensures.judged.0.new_fits }
-
 pub overflow_add-count : goal.overflow_add-count
 overflow_add-count c =
     let w = counted-here _ c.loop-change.change-index (Unchanged c.in-Unchanged.range) _ c.loop-change-test.true c.in-Unchanged.is c.loop-change.invariant in

@@ -1,14 +1,8 @@
-use Rattle.std.proofs.Common.{sym, ap, ◌∙◌, subst}
+use Rattle.std.proofs.Common.{sym, ap, ◌∙◌}
 use Rattle.runs.specs.Rows.{row_of}
-use Rattle.runs.specs.Steps.{put, Meets}
+use Rattle.runs.specs.Steps.{put}
 use Rattle.runs.proofs.Puts.{last-is, last-set, pushed, put-joined}
 use Rattle.runs.proofs.rows.append.Goals as goal
-
-pub join-requires : goal.join-requires
-join-requires c =
-    let rows = c.args.rows.now in
-    let e = last-is rows.items _ c.in-Some.last.now rows.ok.0 c.in-Some.ensures.item.3.0 c.in-Some.ensures.value in
-    subst (Meets (row_of c.args.row).start) (pushed _ _ _ e) c.requires
 
 pub returns-in-Some-join : goal.returns-in-Some-join
 returns-in-Some-join c =

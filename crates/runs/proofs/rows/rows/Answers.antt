@@ -1,27 +1,19 @@
-use Rattle.std.proofs.Common.{◌≡◌, [], map, reverse, get_or, vec_items, sym, refl, ap, ◌∙◌, subst, arith, MatchResult}
+use Rattle.std.proofs.Common.{◌≡◌, [], map, reverse, get_or, vec_items, sym, refl, ap, ◌∙◌, subst, MatchResult}
 use Rattle.std.proofs.lemmas.List.{at_drop_all, reverse-reverse}
 use Rattle.change.specs.Lists.{new_total}
 use Rattle.change.specs.Places.{kept}
 use Rattle.change.proofs.Walks.{blank}
 use Rattle.runs.specs.Rows.{row_of, rows_of, Cover}
-use Rattle.runs.proofs.Along.{along, along-is, walk-starts, walk_here, walk-on, stretch-meets}
+use Rattle.runs.proofs.Along.{along, along-is, walk_here, walk-on, stretch-meets}
 use Rattle.runs.proofs.Covers.{covers}
 use Rattle.runs.proofs.Puts.{runs_of, put_any}
 use Rattle.runs.proofs.rows.rows.Goals as goal
 use Rattle.runs.proofs.rows.rows.Goals.{in-Some+in_ok-append, in_default}
 
-pub loop-change-init : goal.loop-change-init
-loop-change-init c = walk-starts _ _ (ap runs_of c.new-rows.ensures.items) c.in_ok-check_list.ensures.judged.0
-
 pub append-requires : goal.append-requires
 append-requires c =
     let w = walk_here _ c.loop-change.change-index _ _ _ c.loop-change-test.true refl c.loop-change.invariant in
     stretch-meets _ _ _ _ _ w.goes c.in-Some.ensures
-
-pub overflow_add-old : goal.overflow_add-old
-overflow_add-old c =
-    let w = walk_here _ c.loop-change.change-index _ _ _ c.loop-change-test.true refl c.loop-change.invariant in
-    omega (arith, w.goes.fits, c.old_lines-old.ensures)
 
 pub loop-change-preserved : goal.loop-change-preserved
 loop-change-preserved c =
