@@ -111,7 +111,10 @@ fn zeros_stand_behind_the_suspects(rt: HostRuntime) -> Result<(), Fail> {
     let Some(hunk) = row(10, 13, first, suspect(1, 9, 3), 1).hunk() else {
         return Err(Fail::new("no hunk"));
     };
-    assert_eq!(rt; HunkRow::from(hunk), row(10, 13, first, suspect(0, 0, 0), 1));
+    assert_eq!(rt;
+        HunkRow::from(hunk),
+        row(10, 13, first, suspect(0, 0, 0), 1)
+    );
     Ok(())
 }
 

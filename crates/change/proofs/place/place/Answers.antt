@@ -31,4 +31,3 @@ loop-change-preserved c =
           let s = walk_here _ i x _ _ _ _ c.loop-change-test.true w.in-Deleted.is c.loop-change.invariant.0 in
           rw (w.added-is, w.deleted-is) (s, go-deleted _ _ _ _ _ _ g)
     ]
-

@@ -68,4 +68,3 @@ loop-at-preserved c =
     let h : 0 < length t = omega (arith, eqb-false _ _ (sym c.is_empty.ensures ∙ c.loop-at-test.true)) in
     between-as refl c.in_ok-push-in-Other.ensures.items c.first_line.ensures.rest
     (between-stray _ _ _ _ t c.loop-at.invariant h other refl refl (sym (ap kind_of c.first_line.ensures.line) ∙ sym c.in-Other.ensures))
-

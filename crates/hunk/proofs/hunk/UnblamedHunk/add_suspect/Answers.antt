@@ -20,4 +20,3 @@ invariant_of-result c =
     (owed r ss h.count few h.level h.within h.apart) in
     let s = sound-from r _ _ (h.count + 1) l (take_more_set ss h.count new n) o in
     record { few = omega arith; some = omega arith; lines = h.lines; limit = h.limit; level = s.0; within = s.1; apart = s.2 }
-
