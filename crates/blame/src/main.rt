@@ -27,6 +27,7 @@ fn run(rt: &HostRuntime) -> anyhow::Result<()> {
     let Some(command) = args.next() else {
         bail!("no command given; `blame help` lists them");
     };
+    // A table of commands would be no plainer: each is handed its own arguments.
     match command.as_str() {
         "lists" => {
             let options = options::read(rt, args)?;

@@ -2,7 +2,8 @@ ghost use Rattle.std.specs.Prelude.{◌≡◌, ℕ, List};
 
 use std::fmt;
 
-// What every refusal has: the number and the name under which it is known.
+// What every refusal has: the number and the name under which it is known. (In code a
+// refusal is its type; the number is for people and logs, and part of what is promised.)
 pub trait Refusal {
     ghost number: { Self → ℕ };
 

@@ -6,6 +6,8 @@ use change::span::Span;
 
 // Lines of the asked file, and one to eight suspects, of which the first `count`
 // of the array are in use: different commits, each with a range of equal length.
+// (An array and a count, since hunks are `Copy` and lie in the caller's tables, which
+// need no heap: a library's vector is not `Copy`.)
 #[derive(Clone, Copy)]
 pub struct UnblamedHunk {
     pub range_in_blamed_file: Span,

@@ -3,6 +3,7 @@ use change::span::Span;
 use std::fmt;
 
 // A row of a table of hunks, right or wrong. The first `count` suspects are in use.
+// (An array and a count for the reason that a hunk has them.)
 #[derive(Clone, Copy, Debug, PartialEq, Eq, Default)]
 pub struct HunkRow {
     pub range_in_blamed_file: Span,

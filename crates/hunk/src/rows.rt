@@ -61,7 +61,8 @@ impl HunkRow {
         all_fit(used, range.len()) && all_differ(used)
     }
 
-    // The hunk that the row is, if it is one.
+    // The hunk that the row is, if it is one. (`TryFrom` is no plainer: its error would
+    // say no more than `None`.)
     pub fn hunk(&self) -> Option<UnblamedHunk>
         ensures { option_map piece_of result ≡ read_row self.now }
     {

@@ -32,7 +32,8 @@ struct Cursor<'a> {
     line: usize,
 }
 
-// The list whose lines begin at the cursor, which passes them.
+// The list whose lines begin at the cursor, which passes them. (A `for` over the lines is no
+// plainer: the line at which this stops is the caller's next.)
 fn read_list<'a>(
     heap: Global,
     line: usize,
@@ -66,7 +67,7 @@ fn read_list<'a>(
     })
 }
 
-// The lists of a text, in its order.
+// The lists of a text, in its order. (No `for` here: `read_list` passes lines of this loop.)
 pub fn read<'a>(heap: Global, text: &'a [u8]) -> Result<Listing<'a>, AllocError>
     ensures lists { IfOk result (λ l. map entry_of l.lists.items ≡ lists_of 1 (kinds text.now)) }
     ensures strays { IfOk result (λ l. l.strays.items ≡ outside_of 1 false (kinds text.now)) }

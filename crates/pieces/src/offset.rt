@@ -6,7 +6,8 @@ use change::span::Span;
 use std::ops::{AddAssign, SubAssign};
 
 // How far lines of the commit stand from their place in the parent: by lines
-// added before them, or by lines deleted before them.
+// added before them, or by lines deleted before them. (Two cases of one kind, as in
+// gix-blame: a `Result` would make one of them a failure.)
 #[derive(Clone, Copy, Debug, PartialEq, Eq)]
 pub enum Offset {
     Added(u32),

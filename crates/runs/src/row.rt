@@ -4,7 +4,8 @@ use change::line_range::LineRange;
 use std::fmt;
 use std::fmt::InlineText;
 
-// Where the lines of a row come from.
+// Where the lines of a row come from. (An `Option` of the place is no plainer: that the
+// commit set them is a finding, and not the want of one.)
 #[derive(Clone, Copy, Debug, PartialEq, Eq)]
 pub enum Origin {
     // The commit set them.

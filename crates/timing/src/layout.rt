@@ -18,7 +18,8 @@ pub const ROWS: usize = 256;
 
 pub const CHANGES: usize = 512;
 
-// Which table. Each makes 256 pieces.
+// Which table. Each makes 256 pieces. (Three tables told apart by a match in each method:
+// closures that make them would be no plainer, with the three of them apart.)
 #[derive(Clone, Copy)]
 pub enum Layout {
     // 256 hunks and 512 changes. Lines in groups of 12, 8 unchanged and 4 that
@@ -60,7 +61,7 @@ fn replaced(start: u32, end: u32) -> Change {
 }
 
 // The hunk of these lines, which stand at the same place in the commit.
-fn row(start: u32, end: u32) -> HunkRow {
+pub fn row(start: u32, end: u32) -> HunkRow {
     let range = Span { start, end };
     HunkRow {
         range_in_blamed_file: range,
@@ -142,7 +143,8 @@ impl Layout {
         }
     }
 
-    // The hunks of the table; only the first `row_count` are its own.
+    // The hunks of the table; only the first `row_count` are its own. (An array and a count,
+    // since who calls this by the C convention gives it no heap.)
     pub fn rows(self) -> [HunkRow; ROWS] {
         array::from_fn(|i| self.row(i as u32))
     }
