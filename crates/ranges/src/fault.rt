@@ -1,9 +1,7 @@
 ghost use Rattle.std.specs.Prelude.{◌≡◌};
 ghost use Rattle.ranges.specs.Faults.{number_of, name_of};
-ghost use Rattle.change.specs.declared.unmade.Unmade.TheVariants.{Refused};
 
 use change::refusal::Refusal;
-use change::unmade::Unmade;
 
 // Why a range is not added.
 #[derive(Clone, Copy, Debug, PartialEq, Eq)]
@@ -56,21 +54,5 @@ impl Refusal for BadEntry {
 
     fn name(&self) -> &'static str {
         self.fault.name()
-    }
-}
-
-impl From<RangeFault> for Unmade<RangeFault> {
-    ghost from_gives = { λ e r. r ≡ Refused e };
-
-    fn from(e: RangeFault) -> Unmade<RangeFault> {
-        Unmade::Refused(e)
-    }
-}
-
-impl From<BadEntry> for Unmade<BadEntry> {
-    ghost from_gives = { λ e r. r ≡ Refused e };
-
-    fn from(e: BadEntry) -> Unmade<BadEntry> {
-        Unmade::Refused(e)
     }
 }

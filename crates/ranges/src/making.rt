@@ -28,7 +28,9 @@ impl BlameRanges {
         ensures lines { IfOk result (λ b. AskedToo [] lines.first lines.last (ranges_of b)) }
     {
         let mut ranges = BlameRanges::whole_file(heap)?;
-        ranges.add_one_based_inclusive_range(lines)?;
+        ranges
+            .add_one_based_inclusive_range(lines)
+            .map_err(Unmade::Refused)?;
         Ok(ranges)
     }
 
@@ -41,7 +43,9 @@ impl BlameRanges {
         ensures lines { IfOk result (λ b. AllAskedToo [] list.now (ranges_of b)) }
     {
         let mut ranges = BlameRanges::whole_file(heap)?;
-        ranges.add_one_based_inclusive_ranges(list)?;
+        ranges
+            .add_one_based_inclusive_ranges(list)
+            .map_err(Unmade::Refused)?;
         Ok(ranges)
     }
 }

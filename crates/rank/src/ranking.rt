@@ -1,6 +1,7 @@
 ghost use Rattle.std.specs.Prelude.{◌≡◌, Bool, true, false};
 
-// Elements with a rank, which is total and transitive: some may rank equal.
+// Elements with a rank, which is total and transitive: some may rank equal. (So it
+// is no Ord, by which only those that are equal rank equal.)
 pub trait Ranked: Sized {
     // The first ranks after the second.
     ghost after: { Self → Self → Bool };

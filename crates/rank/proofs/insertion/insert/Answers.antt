@@ -13,14 +13,14 @@ insert-requires g c =
 is : (g : _) (c : goal.After-map_err g) → vec_items c.insert.new.self ≡ put g.T.Ranked.after c.args.x (vec_items c.table.inside.items)
 is g c =
     inserted-is-put g.T.Ranked.after c.args.x (vec_items c.table.inside.items) (vec_items c.insert.new.self) c.place-at.result
-    (c.insert.ensures.items ∙ cond-true _ _ _ (c.insert.ensures.succeeds (omega (arith, c.table.invariant, c.if-len-table.false, c.len.ensures))))
+    (c.insert.ensures.items ∙ cond-true _ _ _ (c.insert.ensures.succeeds (omega arith)))
     (c.place-at.ensures ∙ ap (place_of g.T.Ranked.after c.args.x) c.as_slice.ensures.value)
 
 pub returns-clause-table : goal.returns-clause-table
 returns-clause-table g c =
     let t = c.table.inside in
     rw (← c.table.view_is) (ap (holding t.limit) (is g c ∙ sym (cond-true (has_room t.limit (vec_items t.items)) _ _
-    (lt-ltb _ _ (omega (arith, c.table.invariant, c.if-len-table.false, c.len.ensures, t.items.ok.0))))))
+    (lt-ltb _ _ (omega arith)))))
 
 pub returns-clause-order : goal.returns-clause-order
 returns-clause-order g c =
