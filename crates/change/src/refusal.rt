@@ -3,7 +3,8 @@ ghost use Rattle.std.specs.Prelude.{◌≡◌, ℕ, List};
 use std::fmt;
 
 // What every refusal has: the number and the name under which it is known. (In code a
-// refusal is its type; the number is for people and logs, and part of what is promised.)
+// refusal is its type; the number is for people and logs, and part of what is promised.
+// Each type writes its own two matches: no derive of one's own is allowed to.)
 pub trait Refusal {
     ghost number: { Self → ℕ };
 

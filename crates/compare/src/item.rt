@@ -12,7 +12,8 @@ use hunk::suspect::Suspect;
 // The most suspects that a row holds.
 const SUSPECTS: usize = 8;
 
-// What a part of a case is made of.
+// What a part of a case is made of. (Change lists have readers of their own in `listing`;
+// the two texts part their numbers by other bytes.)
 pub trait Item: Copy {
     ghost reads: { List ℕ → Option (Self × List ℕ) };
 

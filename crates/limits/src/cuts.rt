@@ -1,22 +1,13 @@
+use crate::hunks::source;
 use change::change::Change;
 use change::list::{BadList, FILE_LIMIT};
 use change::span::Span;
 use hunk::row::HunkRow;
-use hunk::source::Source;
 use hunk::suspect::Suspect;
 use pieces::fault::{ListFault, ProcessFault};
 use pieces::process::process_changes;
 use std::alloc::{AllocError, Global};
 use std::test::Fail;
-
-const NONE: Suspect = Suspect {
-    source: Source { commit: 0 },
-    range: Span { start: 0, end: 0 },
-};
-
-fn source(commit: u32) -> Source {
-    Source { commit }
-}
 
 fn range(start: u32, end: u32) -> Span {
     Span { start, end }
@@ -24,7 +15,7 @@ fn range(start: u32, end: u32) -> Span {
 
 // A row with one suspect.
 fn row(asked: u32, commit: u32, start: u32, size: u32) -> HunkRow {
-    let mut suspects = [NONE; 8];
+    let mut suspects = [Suspect::default(); 8];
     suspects[0] = Suspect {
         source: source(commit),
         range: range(start, start.saturating_add(size)),

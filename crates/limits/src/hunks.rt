@@ -8,7 +8,7 @@ use hunk::source::Source;
 use hunk::suspect::Suspect;
 use std::test::Fail;
 
-fn source(commit: u32) -> Source {
+pub(crate) fn source(commit: u32) -> Source {
     Source { commit }
 }
 
@@ -21,7 +21,7 @@ fn suspect(commit: u32, start: u32, end: u32) -> Suspect {
 
 // The row of two suspects, of which `count` are in use.
 fn row(start: u32, end: u32, first: Suspect, second: Suspect, count: usize) -> HunkRow {
-    let none = suspect(0, 0, 0);
+    let none = Suspect::default();
     HunkRow {
         range_in_blamed_file: Span { start, end },
         suspects: [first, second, none, none, none, none, none, none],
