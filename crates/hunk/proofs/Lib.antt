@@ -5,3 +5,4 @@ pub mod Passes
 pub mod Adds
 pub mod Checks
 pub mod Rowwise
+pub mod Laid

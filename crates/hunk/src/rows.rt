@@ -8,7 +8,7 @@ use crate::hunk::UnblamedHunk;
 use crate::row::HunkRow;
 use crate::source::Source;
 use crate::suspect::Suspect;
-use crate::suspects::{front, range_at, rename};
+use crate::suspects::{front, range_at};
 use change::list::FILE_LIMIT;
 use change::span::Span;
 
@@ -19,20 +19,30 @@ fn has_lines(range: Span, size: u32) -> bool
     range.end <= FILE_LIMIT && range.start <= range.end && range.len() == size
 }
 
-// Whether each suspect's range is such a one.
+// Whether each suspect's range is such a one. (Tried: `all` with a closure here and below,
+// and `find` for a range; rows are judged four times, and the chains made a table of 256
+// rows take half as long again, which is slower than gix-blame. The loops are not.)
 fn all_fit(suspects: &[Suspect], size: u32) -> bool
     ensures { result ≡ list_all (fits size) suspects.now }
 {
-    suspects
-        .iter()
-        .all(|suspect| has_lines(suspect.range, size))
+    for suspect in suspects {
+        if !has_lines(suspect.range, size) {
+            return false;
+        }
+    }
+    true
 }
 
 // Whether none of the suspects names it.
 fn none_names(suspects: &[Suspect], source: Source) -> bool
     ensures { result ≡ list_all (differs source) suspects.now }
 {
-    suspects.iter().all(|suspect| suspect.source != source)
+    for suspect in suspects {
+        if suspect.source == source {
+            return false;
+        }
+    }
+    true
 }
 
 // Whether no two suspects name the same.
@@ -90,8 +100,11 @@ impl HunkRow {
         ensures hunk { is_hunk self ≡ true → range ≡ span_of (row_piece self).size range.start
             → result ≡ row_of (with_suspects (row_piece self) (map (rename from to range.start) (row_piece self).suspects)) }
     {
-        let mut suspects = front(self.suspects, self.count);
-        rename(&mut suspects[..self.count.min(8)], from, to, range);
+        let used = &self.suspects[..self.count.min(8)];
+        let mut suspects = [Suspect::default(); 8];
+        for (i, suspect) in used.iter().enumerate() {
+            suspects[i] = suspect.renamed(from, to, range);
+        }
         HunkRow { suspects, ..self }
     }
 }

@@ -6,14 +6,17 @@ use crate::source::Source;
 use crate::suspect::Suspect;
 use change::span::Span;
 
-// The range of the first of the suspects that names the source.
+// The range of the first of the suspects that names the source. (A loop for its speed, as in
+// `rows`.)
 pub(crate) fn range_at(suspects: &[Suspect], source: Source) -> Option<Span>
     ensures { result ≡ range_at source suspects.now }
 {
-    suspects
-        .iter()
-        .find(|suspect| suspect.source == source)
-        .map(|suspect| suspect.range)
+    for suspect in suspects {
+        if suspect.source == source {
+            return Some(suspect.range);
+        }
+    }
+    None
 }
 
 // Names `to`, with this range, wherever `from` is named.
@@ -31,6 +34,8 @@ pub(crate) fn front(suspects: [Suspect; 8], count: usize) -> [Suspect; 8]
 {
     let count = count.min(8);
     let mut written = [Suspect::default(); 8];
-    written[..count].copy_from_slice(&suspects[..count]);
+    for (i, suspect) in suspects[..count].iter().enumerate() {
+        written[i] = *suspect;
+    }
     written
 }

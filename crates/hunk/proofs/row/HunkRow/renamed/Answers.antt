@@ -1,29 +1,43 @@
-use Rattle.std.proofs.Common.{◌≡◌, ℕ, ◌-◌, ◌≤◌, min, List, ◌++◌, map, length, take, drop, replicate, ap, ◌∙◌, arith}
-use Rattle.std.proofs.lemmas.List.{drop_at, length-take-le, take_at}
+use Rattle.std.proofs.Common.{◌≡◌, ◌-◌, ◌<◌, ◌≤◌, [], ◌∷◌, ◌++◌, map, length, get_or, take, drop, set, replicate, sym, ap, ◌∙◌, arith}
+use Rattle.std.proofs.lemmas.List.{drop-replicate, get_or-map, length-map, length-take-le, take_all}
 use Rattle.hunk.specs.declared.suspect.Suspect.{Suspect}
 use Rattle.hunk.specs.declared.row.HunkRow.{HunkRow}
 use Rattle.hunk.specs.Rows.{rename_at, renamed_row}
 use Rattle.hunk.specs.Sound.{blank}
 use Rattle.hunk.proofs.Checks.{right}
+use Rattle.hunk.proofs.Laid.{laid, laid-set, zeros}
 use Rattle.hunk.proofs.Rowwise.{renamed-hunk}
 use Rattle.hunk.proofs.row.HunkRow.renamed.Goals as goal
 
--- the first m suspects, renamed where they were laid before zs
-renamed-front : (f : Suspect → Suspect) (ss zs front new : List Suspect) (m k : ℕ) → k ≡ m → m ≤ length ss → front ≡ take m ss ++ zs → new ≡ map f (take k front)
-    → new ++ drop k front ≡ map f (take m ss) ++ zs
-renamed-front f ss zs front new m k p l q e =
-    let t : take k front ≡ take m ss = ap (λ n. take n front) p ∙ ap (take m) q ∙ take_at (take m ss) zs m (length-take-le m ss l) in
-    let d : drop k front ≡ zs = ap (λ n. drop n front) p ∙ ap (drop m) q ∙ drop_at (take m ss) zs m (length-take-le m ss l) in
-    ap (λ x. new ++ x) d ∙ ap (λ x. x ++ zs) (e ∙ ap (map f) t)
+pub loop-i-init : goal.loop-i-init
+loop-i-init c = let z = c.default-suspects.ensures in ap (λ y. y ∷ y ∷ y ∷ y ∷ y ∷ y ∷ y ∷ y ∷ []) (zeros _ _ _ z.0 z.1.0 z.1.1)
+
+pub loop-i-preserved : goal.loop-i-preserved
+loop-i-preserved c =
+    let i = c.loop-i.i in
+    let m = c.min.result in
+    let items = take m c.args.self.suspects in
+    let f : Suspect → Suspect = rename_at c.args.from c.args.to c.args.range in
+    let few : length items ≡ m = length-take-le m c.args.self.suspects (omega arith) in
+    let l : i < length items = c.loop-i-test.true in
+    let n : i < length (map f items) = simp length-map l in
+    ap (λ v. set c.loop-i.suspects i v) (c.renamed.ensures ∙ sym (get_or-map f items i blank blank l))
+    ∙ ap (λ v. set v i (get_or (map f items) i blank)) c.loop-i.invariant
+    ∙ laid-set (map f items) (replicate 8 blank) i n (omega arith)
 
 pub returns : goal.returns
 returns c =
     let r = c.args.self in
-    let m = min r.count 8 in
-    let s = renamed-front (rename_at c.args.from c.args.to c.args.range) r.suspects (replicate (8 - m) blank) c.front-suspects.result c.rename.new.suspects m c.min.result
-    c.min.ensures (omega arith) c.front-suspects.ensures c.rename.ensures in
-    let is : ◌≡◌ {A = HunkRow} (record { range_in_blamed_file = r.range_in_blamed_file; suspects = c.rename.new.suspects ++ drop c.min.result c.front-suspects.result; count = r.count }) (renamed_row c.args.from c.args.to c.args.range r) =
-    ap (λ v. record { range_in_blamed_file = r.range_in_blamed_file; suspects = v; count = r.count }) s in
+    let m = c.min.result in
+    let items = take m r.suspects in
+    let f : Suspect → Suspect = rename_at c.args.from c.args.to c.args.range in
+    let few : length items ≡ m = length-take-le m r.suspects (omega arith) in
+    let e : c.loop-i.i ≡ m = omega arith in
+    let z : c.loop-i.suspects ≡ map f items ++ replicate (8 - m) blank =
+    c.loop-i.invariant ∙ ap (laid (map f items) (replicate 8 blank)) e
+    ∙ ap (λ v. v ++ drop m (replicate 8 blank)) (take_all m (map f items) (simp length-map (omega arith))) ∙ ap (λ v. map f items ++ v) (drop-replicate m 8 blank) in
+    let is : ◌≡◌ {A = HunkRow} (record { range_in_blamed_file = r.range_in_blamed_file; suspects = c.loop-i.suspects; count = r.count }) (renamed_row c.args.from c.args.to c.args.range r) =
+    ap (λ v. record { range_in_blamed_file = r.range_in_blamed_file; suspects = v; count = r.count }) (z ∙ ap (λ k. map f (take k r.suspects) ++ replicate (8 - k) blank) c.min.ensures) in
     record {
       is = is;
       hunk = λ h e.
