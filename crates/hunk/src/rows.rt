@@ -49,10 +49,12 @@ fn none_names(suspects: &[Suspect], source: Source) -> bool
 fn all_differ(suspects: &[Suspect]) -> bool
     ensures { result ≡ different suspects.now }
 {
-    for (i, suspect) in suspects.iter().enumerate() {
-        if !none_names(&suspects[i + 1..], suspect.source) {
+    let mut left = suspects;
+    while let [suspect, rest @ ..] = left {
+        if !none_names(rest, suspect.source) {
             return false;
         }
+        left = rest;
     }
     true
 }

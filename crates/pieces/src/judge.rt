@@ -33,23 +33,40 @@ pub fn judge_list(changes: &[Change]) -> Result<Totals, ListFault>
     Ok(list.totals)
 }
 
-// The first row that is no hunk.
+// The first row that is no hunk. (Tried: `position` with a closure, here and below; with it a
+// table of 256 rows took 4 in 100 longer, which is slower than gix-blame.)
 pub(crate) fn first_no_hunk<R: TableRow>(rows: &[R]) -> Option<usize>
     ensures { result ≡ first_none 0 (map R.TableRow.reads rows.now) }
 {
-    rows.iter().position(|row| !row.is_hunk())
+    for (i, row) in rows.iter().enumerate() {
+        if !row.is_hunk() {
+            return Some(i);
+        }
+    }
+    None
 }
 
 // Whether the row names the suspect past the end of its file.
 fn is_outside<R: TableRow>(row: &R, suspect: Source, total: u32) -> bool
     ensures { result ≡ outside suspect total (R.TableRow.reads row.now) }
 {
-    row.is_hunk() && row.range_of(suspect).is_some_and(|range| range.end > total)
+    if !row.is_hunk() {
+        return false;
+    }
+    match row.range_of(suspect) {
+        Some(range) => range.end > total,
+        None => false,
+    }
 }
 
 // The first such row.
 pub(crate) fn first_outside<R: TableRow>(rows: &[R], suspect: Source, total: u32) -> Option<usize>
     ensures { result ≡ first_outside suspect total 0 (map R.TableRow.reads rows.now) }
 {
-    rows.iter().position(|row| is_outside(row, suspect, total))
+    for (i, row) in rows.iter().enumerate() {
+        if is_outside(row, suspect, total) {
+            return Some(i);
+        }
+    }
+    None
 }
