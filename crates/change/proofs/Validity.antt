@@ -112,10 +112,3 @@ check-stops i at c cs h =
       | inl e ↦ let z : Some (grown at c) ≡ None = rw e at h in let n : ◌≡◌ {A = ℕ} 0 1 = cc in absurd (omega arith)
       | inr e ↦ rw e
     ]
-
-pub check-goes : (i : ℕ) (at next : Totals) (c : Change) (cs : List Change) → step_of at c ≡ Some next → check_from i at (c ∷ cs) ≡ check_from (i + 1) next cs
-check-goes i at next c cs h =
-    elim (cases_Bool (stands at c)) [
-      | inl e ↦ let z : grown at c ≡ next = let s : Some (grown at c) ≡ Some next = rw e at h in cc in rw (e, z)
-      | inr e ↦ let z : None ≡ Some next = rw e at h in let n : ◌≡◌ {A = ℕ} 0 1 = cc in absurd (omega arith)
-    ]

@@ -21,10 +21,3 @@ push-owed r ss n e i a o = record {
   within = All-push Inside ss n o.within i;
   apart = push-distinct ss n a o.apart;
 }
-
-pub added_is : (c : Source) (x : ℕ) (h : Piece) → names c h ≡ false → x + h.size ≤ limit → length h.suspects < 8
-    → added_of c x h ≡ Ok (with_suspects h (h.suspects ++ record { source = c; start = x } ∷ []))
-added_is c x h n l f =
-    let p : leb (x + h.size) limit ≡ true = le-leb _ _ l in
-    let q : ltb (length h.suspects) 8 ≡ true = lt-ltb _ _ f in
-    rw (n, p, q)

@@ -21,14 +21,6 @@ stops b x y z p q e = sym (p ∙ ap (λ c. c && y) e) ∙ q
 pub goes : (b x y z : Bool) → x ≡ (b && y) → x ≡ z → b ≡ true → y ≡ z
 goes b x y z p q e = sym (p ∙ ap (λ c. c && y) e) ∙ q
 
-pub different-more : (ss : List Suspect) (i : ℕ) → i < length ss
-    → different (drop i ss) ≡ (list_all (differs (get_or ss i blank).source) (drop (i + 1) ss) && different (drop (i + 1) ss))
-different-more ss i h = at_drop_more different ss i blank h
-
--- .. of the others as the code reads them
-pub others-read : (t : Suspect → Bool) (ss : List Suspect) (i : ℕ) (b : Bool) → b ≡ list_all t (take (length ss - i) (drop i ss)) → list_all t (drop i ss) ≡ b
-others-read t ss i b e = sym (e ∙ ap (list_all t) (take_rest ss i))
-
 -- the tests, as what the suspects owe
 every-all : (t : Suspect → Bool) (P : Suspect → Type 0) → ((s : Suspect) → t s ≡ true → P s) → (ss : List Suspect) → list_all t ss ≡ true → AllByRecursion P ss
 every-all t P f [] h = tt

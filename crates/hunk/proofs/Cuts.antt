@@ -13,12 +13,6 @@ fronts k s = record { source = s.source; range = record { start = s.range.start;
 abbrev pub backs : ℕ → Suspect → Suspect
 backs k s = record { source = s.source; range = record { start = s.range.start + k; end = s.range.end } }
 
--- one more suspect mapped
-pub mapped-more : (f : Suspect → Suspect) (xs ys : List Suspect) (i : ℕ) → i < length xs → i < length ys
-    → take i xs ≡ map f (take i ys) → take (i + 1) (set xs i (f (get_or ys i blank))) ≡ map f (take (i + 1) ys)
-mapped-more f xs ys i hx hy e =
-    take_more_set xs i (f (get_or ys i blank)) hx ∙ ap (λ l. l ++ f (get_or ys i blank) ∷ []) e ∙ sym (map_more f ys i blank hy)
-
 -- a suspect of what was mapped
 pub mapped_at : (f : Suspect → Suspect) (xs ys : List Suspect) (n : ℕ) → n ≤ length ys
     → take n xs ≡ map f (take n ys) → (i : ℕ) → i < n → get_or xs i blank ≡ f (get_or ys i blank)

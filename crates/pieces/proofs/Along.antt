@@ -15,24 +15,3 @@ at_row reads F rows i r v l e f =
 
 pub at-end : {R Y : Type 0} (reads : R → Option Piece) (F : List (Option Piece) → Y) (rows : List R) (i : ℕ) → length rows ≤ i → F (map reads (drop i rows)) ≡ F []
 at-end reads F rows i l = at_drop_all (λ q. F (map reads q)) rows i l
-
--- the first row that is no hunk, or outside, as a place in the table
-pub none-position : {R : Type 0} (reads : R → Option Piece) (rows : List R) → position (λ r. not (has (reads r))) rows ≡ first_none 0 (map reads rows)
-none-position {R = R} reads rows = position_from-zero (λ r. not (has (reads r))) rows ∙ from 0 rows
-  where
-    from : (i : ℕ) (rs : List R) → position_from (λ r. not (has (reads r))) i rs ≡ first_none i (map reads rs)
-    from i [] = refl
-    from i (r ∷ rs) = at-one (reads r) (from (i + 1) rs)
-      where
-        at-one : (o : Option Piece) → position_from (λ r. not (has (reads r))) (i + 1) rs ≡ first_none (i + 1) (map reads rs)
-            → cond (not (has o)) (Some i) (position_from (λ r. not (has (reads r))) (i + 1) rs) ≡ first_none i (o ∷ map reads rs)
-        at-one None e = refl
-        at-one (Some h) e = e
-
-pub outside-position : {R : Type 0} (reads : R → Option Piece) (c : Source) (total : ℕ) (rows : List R)
-    → position (λ r. outside c total (reads r)) rows ≡ first_outside c total 0 (map reads rows)
-outside-position {R = R} reads c total rows = position_from-zero (λ r. outside c total (reads r)) rows ∙ from 0 rows
-  where
-    from : (i : ℕ) (rs : List R) → position_from (λ r. outside c total (reads r)) i rs ≡ first_outside c total i (map reads rs)
-    from i [] = refl
-    from i (r ∷ rs) = ap (λ o. cond (outside c total (reads r)) (Some i) o) (from (i + 1) rs)

@@ -11,21 +11,6 @@ module _ {R : Type 0} (means : R → Piece) (exact : R → Type 0) (entry : List
   pub fill_none : Filled means exact entry [] entry
   fill_none = record { pieces = refl; exacts = tt; rest = refl; long = refl }
 
-  pub fill_one : (ps : List Piece) (out : List R) (p : Piece) (r : R) → Filled means exact entry ps out → length ps < length out → means r ≡ p → exact r
-      → Filled means exact entry (ps ++ p ∷ []) (set out (length ps) r)
-  fill_one ps out p r f l m x =
-      let n : length (ps ++ p ∷ []) ≡ length ps + 1 = length_push ps p in
-      let t : take (length (ps ++ p ∷ [])) (set out (length ps) r) ≡ take (length ps) out ++ r ∷ [] =
-      ap (λ k. take k (set out (length ps) r)) n ∙ take_more_set out (length ps) r l in
-      record {
-        pieces = ap (map means) t ∙ map_push means (take (length ps) out) r ∙ ap (λ y. map means (take (length ps) out) ++ y ∷ []) m ∙ ap (λ q. q ++ p ∷ []) f.pieces;
-        exacts = subst (AllByRecursion exact) (sym t) (All-push exact (take (length ps) out) r f.exacts x);
-        rest =
-            ap (λ k. drop k (set out (length ps) r)) n ∙ drop-set-lt (length ps + 1) out (length ps) r (omega arith)
-            ∙ sym (drop-drop 1 (length ps) out) ∙ ap (drop 1) f.rest ∙ drop-drop 1 (length ps) entry ∙ sym (ap (λ k. drop k entry) n);
-        long = length-set out (length ps) r ∙ f.long;
-      }
-
 -- lists side by side
 parts : {X : Type 0} (xs ys : List X) (n b : ℕ) → n ≡ length xs → b ≤ length ys → (take (n + b) (xs ++ ys) ≡ xs ++ take b ys) × (drop (n + b) (xs ++ ys) ≡ drop b ys)
 parts xs ys n b e l =

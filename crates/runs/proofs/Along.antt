@@ -184,9 +184,6 @@ pub record Walked (whole cs : List Change) (rs : List Run) (old : ℕ) : Type 0 
   pub same : along old cs rs ≡ along 0 whole []
   pub goes : Going cs rs old
 
-pub walk-starts : (cs : List Change) (rs : List Run) → rs ≡ [] → Valid cs → Walked cs cs rs 0
-walk-starts cs rs e v = subst (λ l. Walked cs cs l 0) (sym e) (record { same = refl; goes = going cs v })
-
 pub walk_here : (whole : List Change) (i : ℕ) (x : Change) (rs : List Run) (old : ℕ) → i < length whole → get_or whole i blank ≡ x
     → Walked whole (drop i whole) rs old → Walked whole (x ∷ drop (i + 1) whole) rs old
 walk_here whole i x rs old h e w = subst (λ l. Walked whole l rs old) (here whole i x h e) w

@@ -33,13 +33,6 @@ put-joined l r j ls h =
       | inr e ↦ absurd (no-some (sym (rw e at h)))
     ]
 
-pub put-apart : (l r : Run) (ls : List Run) → None ≡ cond (goes_on l r.place) (Some (joined l r)) None → r ∷ l ∷ ls ≡ put r (l ∷ ls)
-put-apart l r ls h =
-    elim (cases_Bool (goes_on l r.place)) [
-      | inl e ↦ absurd (no-some (rw e at h))
-      | inr e ↦ rw e
-    ]
-
 -- the last run then ends where the one put behind does
 pub put_meets : (r : Run) (ls : List Run) → Meets r.end (put r ls)
 put_meets r [] = refl
