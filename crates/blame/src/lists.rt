@@ -4,7 +4,7 @@ use change::refusal::Told;
 use change::valid::ValidList;
 use listing::read::{Recorded, read};
 use ranges::blame_ranges::BlameRanges;
-use runs::count::count_lines;
+use runs::count::{LineCount, count_valid};
 use runs::part::part;
 use runs::row::{Origin, Row};
 use runs::rows::rows;
@@ -21,19 +21,20 @@ struct Summary {
 }
 
 impl Summary {
-    // So many lines more that were set, and kept.
-    fn count(&mut self, set: u32, kept: u32) {
-        self.set = self.set.saturating_add(u64::from(set));
-        self.kept = self.kept.saturating_add(u64::from(kept));
+    // So many lines more.
+    fn count(&mut self, lines: LineCount) {
+        self.set = self.set.saturating_add(u64::from(lines.set));
+        self.kept = self.kept.saturating_add(u64::from(lines.kept));
     }
 
     // The lines of one more row.
     fn count_row(&mut self, row: Row) {
         let lines = row.lines.len();
-        match row.origin {
-            Origin::Set => self.count(lines, 0),
-            Origin::Kept(_) => self.count(0, lines),
-        }
+        let (set, kept) = match row.origin {
+            Origin::Set => (lines, 0),
+            Origin::Kept(_) => (0, lines),
+        };
+        self.count(LineCount { set, kept });
     }
 }
 
@@ -114,9 +115,7 @@ impl Printer<'_> {
         let old = list.totals.old;
         println!(self.rt; "  lines: {new} here, {old} in the parent")?;
         if self.asked.is_whole_file() {
-            if let Ok(count) = count_lines(list.changes) {
-                self.summary.count(count.set, count.kept);
-            }
+            self.summary.count(count_valid(list));
         }
         Ok(())
     }

@@ -13,7 +13,9 @@ pub struct Options {
     pub path: Option<String>,
 }
 
-// Reads `-L FIRST,LAST`, any number of times, and the name of a file.
+// Reads `-L FIRST,LAST`, any number of times, and the name of a file. (The flag says that `-L`
+// stood alone. A loop that takes the lines by `args.next()` is plainer, but has no measure by
+// which it is seen to end: only `for` has.)
 pub fn read(rt: &HostRuntime, args: Args) -> anyhow::Result<Options> {
     let mut ranges = BlameRanges::whole_file(rt.alloc())?;
     let mut path = None;

@@ -30,24 +30,16 @@ fn row(start: u32, end: u32, first: Suspect, second: Suspect, count: usize) -> H
 }
 
 fn made(start: u32, end: u32) -> Result<UnblamedHunk, Fail> {
-    let Ok(hunk) = UnblamedHunk::new(Span { start, end }, source(1)) else {
-        return Err(Fail::new("no hunk"));
-    };
-    Ok(hunk)
+    UnblamedHunk::new(Span { start, end }, source(1)).map_err(|_| Fail::new("no hunk"))
 }
 
 fn grown(hunk: UnblamedHunk, commit: u32, start: u32) -> Result<UnblamedHunk, Fail> {
-    let Ok(hunk) = hunk.add_suspect(source(commit), start) else {
-        return Err(Fail::new("no suspect"));
-    };
-    Ok(hunk)
+    hunk.add_suspect(source(commit), start)
+        .map_err(|_| Fail::new("no suspect"))
 }
 
 fn refused(hunk: UnblamedHunk, commit: u32, start: u32) -> Option<SuspectFault> {
-    match hunk.add_suspect(source(commit), start) {
-        Ok(_) => None,
-        Err(fault) => Some(fault),
-    }
+    hunk.add_suspect(source(commit), start).err()
 }
 
 #[test]

@@ -1,11 +1,15 @@
-use Rattle.std.proofs.Common.{◌≡◌, Ok, ap, subst, arith}
+use Rattle.std.proofs.Common.{subst, arith, rules}
 use Rattle.std.proofs.lemmas.List.{drop_all}
 use Rattle.change.specs.declared.change.Change.TheVariants.{Unchanged, AddedOrReplaced, Deleted}
-use Rattle.change.specs.Places.{of_valid}
-use Rattle.runs.specs.Counts.{count_of}
+use Rattle.change.proofs.Validity.{valid-of}
 use Rattle.runs.proofs.Counting.{Counted, counted-here, count_fits, counted-unchanged, counted-added, counted-deleted, counted-all}
-use Rattle.runs.proofs.count.count_lines.Goals as goal
-use Rattle.runs.proofs.count.count_lines.Goals.{in-Unchanged, in-AddedOrReplaced, in-Deleted}
+use Rattle.runs.proofs.count.count_valid.Goals as goal
+use Rattle.runs.proofs.count.count_valid.Goals.{in-Unchanged, in-AddedOrReplaced, in-Deleted}
+
+pub loop-change-init : goal.loop-change-init
+loop-change-init c =
+    let valid = valid-of c.args.list.changes.now c.args.list.totals c.args.list.valid in
+    search rules
 
 pub overflow_add-count : goal.overflow_add-count
 overflow_add-count c =
@@ -33,7 +37,6 @@ loop-change-preserved c =
 
 pub returns : goal.returns
 returns c =
-    let cs = c.args.changes.now in
-    let ok = c.in_ok-check_list.ensures in
+    let cs = c.args.list.changes.now in
     let w = subst (λ l. Counted cs l c.loop-change.count) (drop_all c.loop-change.change-index cs c.loop-change-test.false) c.loop-change.invariant in
-    subst (λ k. Ok c.loop-change.count ≡ of_valid k (count_of cs)) ok.is (ap Ok (counted-all cs _ ok.judged.0.follows w))
+    counted-all cs _ (valid-of cs c.args.list.totals c.args.list.valid).follows w
