@@ -3,7 +3,9 @@ use change::span::Span;
 use std::fmt;
 
 // A row of a table of hunks, right or wrong. The first `count` suspects are in use.
-// (An array and a count for the reason that a hunk has them.)
+// (An array and a count for the reason that a hunk has them. The fields are a hunk's, without
+// what is known of those: a hunk round a row would say no more, and each use of it would go
+// through the row.)
 #[derive(Clone, Copy, Debug, PartialEq, Eq, Default)]
 pub struct HunkRow {
     pub range_in_blamed_file: Span,

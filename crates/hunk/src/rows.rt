@@ -20,8 +20,8 @@ fn has_lines(range: Span, size: u32) -> bool
 }
 
 // Whether each suspect's range is such a one. (Tried: `all` with a closure here and below,
-// and `find` for a range; rows are judged four times, and the chains made a table of 256
-// rows take half as long again, which is slower than gix-blame. The loops are not.)
+// and `find` for a range; rows are judged four times, and with the chains a table of 256
+// rows took 1.3 times what gix-blame takes. With the loops it takes no longer than that.)
 fn all_fit(suspects: &[Suspect], size: u32) -> bool
     ensures { result ≡ list_all (fits size) suspects.now }
 {
@@ -102,6 +102,8 @@ impl HunkRow {
         ensures hunk { is_hunk self ≡ true → range ≡ span_of (row_piece self).size range.start
             → result ≡ row_of (with_suspects (row_piece self) (map (rename from to range.start) (row_piece self).suspects)) }
     {
+        // Tried: `front`, and `rename` on it. The second pass made a table of 256 rows take
+        // 1.1 times what gix-blame takes; with one it takes no longer.
         let used = &self.suspects[..self.count.min(8)];
         let mut suspects = [Suspect::default(); 8];
         for (i, suspect) in used.iter().enumerate() {

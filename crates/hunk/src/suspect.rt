@@ -12,7 +12,9 @@ pub struct Suspect {
 }
 
 impl Suspect {
-    // `to` with this range, if it names `from`.
+    // `to` with this range, if it names `from`. (These are parameters here and wherever a
+    // hunk or a row is passed on, as in gix-blame's `passed_blame(from, to)`: a struct of
+    // them would be made for one call, and taken apart in it.)
     pub(crate) fn renamed(self, from: Source, to: Source, range: Span) -> Suspect
         ensures { result ≡ rename_at from to range self }
     {

@@ -28,7 +28,8 @@ pub(crate) fn rename(suspects: &mut [Suspect], from: Source, to: Source, range: 
     }
 }
 
-// The first `count` suspects, and zeros behind them.
+// The first `count` suspects, and zeros behind them. (Tried: `copy_from_slice`; with it a
+// table of 256 rows took 1.08 times what gix-blame takes.)
 pub(crate) fn front(suspects: [Suspect; 8], count: usize) -> [Suspect; 8]
     ensures { result ≡ take (min count 8) suspects ++ replicate (8 - min count 8) blank }
 {

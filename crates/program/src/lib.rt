@@ -3,23 +3,32 @@
 
 #![tactic(auto)]
 
-ghost use Rattle.std.specs.Prelude.{◌≡◌, is_ok, cond};
+ghost use Rattle.std.specs.Prelude.{◌≡◌, is_ok, cond, IfOk, OnOk, IfSome};
+ghost use Rattle.std.specs.Io.KnownBytes.{IsAtEnd};
 ghost use Rattle.std.specs.Process.{exit_status};
 
 use anyhow::anyhow;
+use std::alloc::Global;
 use std::fs;
 use std::io::Read;
 use std::process::ExitCode;
 
-// All bytes of the file, or of standard input where none is named.
+// All bytes that are left of the input.
+pub fn all_bytes<R: Read>(heap: Global, input: &mut R) -> anyhow::Result<Vec<u8>>
+    ensures bytes { IfOk result (λ v. IfSome (R.Read.remaining input.old) (λ left. v.items ≡ left)) }
+    ensures end { OnOk result (IsAtEnd (R.Read.remaining input.new)) }
+{
+    let mut bytes = Vec::new(heap);
+    input.read_to_end(&mut bytes)?;
+    Ok(bytes)
+}
+
+// All bytes of the file, or of standard input where none is named. (No clause: the library
+// has no words for what a file holds.)
 pub fn read(rt: &HostRuntime, path: Option<String>) -> anyhow::Result<Vec<u8>> {
     match path {
         Some(path) => fs::read(rt, path.as_str()).map_err(|error| anyhow!("{path}: {error}")),
-        None => {
-            let mut bytes = Vec::new(rt.alloc());
-            rt.stdin().read_to_end(&mut bytes)?;
-            Ok(bytes)
-        }
+        None => all_bytes(rt.alloc(), &mut rt.stdin()),
     }
 }
 
@@ -35,3 +44,6 @@ pub fn end(rt: &HostRuntime, program: &str, outcome: anyhow::Result<()>) -> Exit
         }
     }
 }
+
+#[cfg(test)]
+mod tests;

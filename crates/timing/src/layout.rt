@@ -143,8 +143,9 @@ impl Layout {
         }
     }
 
-    // The hunks of the table; only the first `row_count` are its own. (An array and a count,
-    // since who calls this by the C convention gives it no heap.)
+    // The hunks of the table; only the first `row_count` are its own. (An array and a count:
+    // the library's vector of fixed room needs a default of its elements, which a change has
+    // not, and rows are held as changes are.)
     pub fn rows(self) -> [HunkRow; ROWS] {
         array::from_fn(|i| self.row(i as u32))
     }
