@@ -95,7 +95,8 @@ impl Printer<'_> {
     }
 
     // The lines asked for, row by row, and the totals. Where some are asked, they are
-    // counted here; those of a whole list are counted apart.
+    // counted here; those of a whole list are counted apart. (`rows` checks the list once
+    // more: it takes any, and asks nothing of it.)
     fn rows(&mut self, list: ValidList) -> anyhow::Result<()> {
         let Ok(rows) = rows(self.rt.alloc(), list.changes) else {
             bail!("no memory for the rows of a list");

@@ -52,6 +52,7 @@ impl TryFrom<u32> for Layout {
     }
 }
 
+// (Two numbers here and below: a `Span` would have to be written out at each call.)
 fn unchanged(start: u32, end: u32) -> Change {
     Change::Unchanged(Span { start, end })
 }
