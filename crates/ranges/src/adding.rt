@@ -20,13 +20,12 @@ use std::mem::swap;
 fn inclusive_to_zero_based_exclusive(lines: OneBased) -> Result<LineRange, RangeFault>
     ensures { plain_of result ≡ zero_based_of lines.first lines.last }
 {
-    let Some(start) = lines.first.checked_sub(1) else {
-        return Err(RangeFault::ZeroLine);
-    };
+    let start = lines.first.checked_sub(1).ok_or(RangeFault::ZeroLine)?;
     LineRange::new(start, lines.last).ok_or(RangeFault::EmptyRange)
 }
 
-// Puts these rows in place of the table's.
+// Puts these rows in place of the table's. (By a loop: a table takes elements one
+// by one, into the room that it has.)
 fn refill(table: &mut Table<LineRange>, rows: &[LineRange])
     requires { length rows.now ≤ table.old.limit }
     ensures items { items_of table.new ≡ rows.now }
