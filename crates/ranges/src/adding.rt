@@ -1,5 +1,5 @@
 ghost use Rattle.std.specs.Prelude.{◌≡◌, ◌≤◌, [], length, Ok, IfOk, OnOk};
-ghost use Rattle.rank.specs.Tables.{with_items};
+ghost use Rattle.rank.specs.Tables.{items_of};
 ghost use Rattle.ranges.specs.Spans.{span_of, spans};
 ghost use Rattle.ranges.specs.Adds.{plain_of, zero_based_of, merge_of, add_of, answer_of, then_of, AskedToo, add_all_of, AllAskedToo};
 ghost use Rattle.ranges.specs.Ranges.{rows_of, ranges_of};
@@ -20,16 +20,16 @@ use std::mem::swap;
 fn inclusive_to_zero_based_exclusive(lines: OneBased) -> Result<LineRange, RangeFault>
     ensures { plain_of result ≡ zero_based_of lines.first lines.last }
 {
-    let Some(start) = lines.first.checked_sub(1) else {
-        return Err(RangeFault::ZeroLine);
-    };
+    let start = lines.first.checked_sub(1).ok_or(RangeFault::ZeroLine)?;
     LineRange::new(start, lines.last).ok_or(RangeFault::EmptyRange)
 }
 
-// Puts these rows in place of the table's.
+// Puts these rows in place of the table's. (By a loop: a table takes elements one
+// by one, into the room that it has.)
 fn refill(table: &mut Table<LineRange>, rows: &[LineRange])
     requires { length rows.now ≤ table.old.limit }
-    ensures { table.new ≡ with_items table.old rows.now }
+    ensures items { items_of table.new ≡ rows.now }
+    ensures limit { table.new.limit ≡ table.old.limit }
 {
     table.clear();
     for row in rows {

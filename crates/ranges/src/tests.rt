@@ -9,6 +9,7 @@ fn lines(first: u32, last: u32) -> OneBased {
     OneBased { first, last }
 }
 
+// (The tests of a crate cannot call those of another, so each that needs it has its own.)
 fn span(start: u32, end: u32) -> Span {
     Span { start, end }
 }

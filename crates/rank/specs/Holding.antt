@@ -1,6 +1,7 @@
--- What a table is to those who use it: its limit, and its elements in their order. Assumes nothing.
-use Rattle.std.specs.Prelude.{ℕ, List}
+-- What a table is to those who use it: its limit, and its elements in their order, no more than that. Assumes nothing.
+use Rattle.std.specs.Prelude.{ℕ, ◌≤◌, List, length}
 
 pub record Holding (X : Type 0) : Type 0 where
   pub limit : ℕ
   pub items : List X
+  pub few : length items ≤ limit

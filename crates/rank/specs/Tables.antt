@@ -7,14 +7,6 @@ module _ {X : Type 0} where
   abbrev pub items_of : Table X → List X
   items_of t = t.items
 
-  -- a table of this limit that holds these
-  abbrev pub holding : ℕ → List X → Table X
-  holding limit xs = record { limit = limit; items = xs }
-
-  -- the table with these in place of what it holds: its limit stays
-  abbrev pub with_items : Table X → List X → Table X
-  with_items t xs = holding t.limit xs
-
   -- a table of these elements takes one more
   abbrev pub has_room : ℕ → List X → Bool
   has_room limit xs = nat_lt (length xs) limit

@@ -1,7 +1,7 @@
 ghost use Rattle.std.specs.Prelude.{◌≡◌, if◌then◌else◌};
 ghost use Rattle.rank.specs.Ranks.{InOrder};
 ghost use Rattle.rank.specs.Joins.{coalesced, AnyFirst, Parted};
-ghost use Rattle.rank.specs.Tables.{items_of, with_items};
+ghost use Rattle.rank.specs.Tables.{items_of};
 
 use crate::joining::Joining;
 use crate::table::Table;
@@ -23,7 +23,8 @@ fn join_next<T: Joining + Copy>(next: &mut T, held: &mut T) -> bool
 
 // Makes one of neighbours that join, until no two do.
 pub fn coalesce<T: Joining + Copy>(table: &mut Table<T>)
-    ensures table { table.new ≡ with_items table.old (coalesced T.Joining.joins T.Joining.joined (items_of table.old)) }
+    ensures items { items_of table.new ≡ coalesced T.Joining.joins T.Joining.joined (items_of table.old) }
+    ensures limit { table.new.limit ≡ table.old.limit }
     ensures parted { Parted T.Joining.joins (items_of table.new) }
     ensures settled { coalesced T.Joining.joins T.Joining.joined (items_of table.new) ≡ items_of table.new }
     ensures any_first { AnyFirst T.Joining.joins T.Joining.joined (items_of table.old) (items_of table.new) }

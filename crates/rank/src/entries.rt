@@ -23,21 +23,28 @@ impl Ranked for BlameEntry {
     }
 }
 
+// So many lines from the start on.
+fn lines_from(start: u32, len: u32) -> Range<u64>
+    ensures start { result.start ≡ start }
+    ensures end { result.end ≡ start + len }
+{
+    let start = u64::from(start);
+    start..start + u64::from(len)
+}
+
 impl BlameEntry {
     fn range_in_blamed_file(&self) -> Range<u64>
         ensures start { result.start ≡ self.now.start_in_blamed_file }
         ensures end { result.end ≡ self.now.start_in_blamed_file + self.now.len }
     {
-        let start = u64::from(self.start_in_blamed_file);
-        start..start + u64::from(self.len())
+        lines_from(self.start_in_blamed_file, self.len())
     }
 
     fn range_in_source_file(&self) -> Range<u64>
         ensures start { result.start ≡ self.now.start_in_source_file }
         ensures end { result.end ≡ self.now.start_in_source_file + self.now.len }
     {
-        let start = u64::from(self.start_in_source_file);
-        start..start + u64::from(self.len())
+        lines_from(self.start_in_source_file, self.len())
     }
 }
 

@@ -1,6 +1,6 @@
 ghost use Rattle.std.specs.Prelude.{◌≡◌, MatchResult};
 ghost use Rattle.rank.specs.Ranks.{InOrder, put, place_of, Among};
-ghost use Rattle.rank.specs.Tables.{items_of, with_items, answer_to, then_holds};
+ghost use Rattle.rank.specs.Tables.{items_of, answer_to, then_holds};
 
 use crate::ranking::Ranked;
 use crate::table::{Full, Table};
@@ -18,7 +18,8 @@ fn place<T: Ranked>(rows: &[T], x: &T) -> usize
 // rank, or hands it back where the table is full.
 pub fn insert<T: Ranked>(table: &mut Table<T>, x: T) -> Result<(), Full<T>>
     ensures answer { result ≡ answer_to table.old.limit (items_of table.old) x }
-    ensures table { table.new ≡ with_items table.old (then_holds table.old.limit (items_of table.old) (put T.Ranked.after x (items_of table.old))) }
+    ensures items { items_of table.new ≡ then_holds table.old.limit (items_of table.old) (put T.Ranked.after x (items_of table.old)) }
+    ensures limit { table.new.limit ≡ table.old.limit }
     ensures order { InOrder T.Ranked.after (items_of table.old) → InOrder T.Ranked.after (items_of table.new) }
     ensures others { MatchResult result (λ _. Among x (items_of table.old) (items_of table.new)) (λ _. items_of table.new ≡ items_of table.old) }
 {
@@ -26,6 +27,7 @@ pub fn insert<T: Ranked>(table: &mut Table<T>, x: T) -> Result<(), Full<T>>
         return Err(Full { value: x });
     }
     let at = place(table.items.as_slice(), &x);
+    // (No From for `?`: out of memory means a full table here alone.)
     table.items.insert(at, x).map_err(|refused| Full {
         value: refused.value,
     })

@@ -1,6 +1,6 @@
 ghost use Rattle.std.specs.Prelude.{◌≡◌, ◌≤◌, [], ◌∷◌, ◌++◌, length, take, IfOk};
 ghost use Rattle.std.specs.List.{slice_get};
-ghost use Rattle.rank.specs.Tables.{items_of, holding, with_items, answer_to, then_holds};
+ghost use Rattle.rank.specs.Tables.{items_of, answer_to, then_holds};
 
 use crate::table::{Full, Table};
 use std::alloc::{AllocError, Global};
@@ -8,7 +8,7 @@ use std::alloc::{AllocError, Global};
 impl<T> Table<T> {
     // An empty table, with room for as many elements as its limit says.
     pub fn new(heap: Global, limit: usize) -> Result<Table<T>, AllocError>
-        ensures { IfOk result (λ t. t ≡ holding limit []) }
+        ensures { IfOk result (λ t. (items_of t ≡ []) × (t.limit ≡ limit)) }
     {
         let items = Vec::with_capacity(heap, limit)?;
         Ok(Table { items, limit })
@@ -45,7 +45,8 @@ impl<T> Table<T> {
     // Puts the element behind the others, or hands it back where the table is full.
     pub fn push(&mut self, x: T) -> Result<(), Full<T>>
         ensures answer { result ≡ answer_to self.old.limit (items_of self.old) x }
-        ensures table { self.new ≡ with_items self.old (then_holds self.old.limit (items_of self.old) (items_of self.old ++ x ∷ [])) }
+        ensures items { items_of self.new ≡ then_holds self.old.limit (items_of self.old) (items_of self.old ++ x ∷ []) }
+        ensures limit { self.new.limit ≡ self.old.limit }
     {
         if self.items.len() < self.limit {
             self.items.push_reserved(x);
@@ -59,7 +60,8 @@ impl<T> Table<T> {
     pub fn truncate(&mut self, n: usize)
     where
         T: Drop,
-        ensures { self.new ≡ with_items self.old (take n (items_of self.old)) }
+        ensures items { items_of self.new ≡ take n (items_of self.old) }
+        ensures limit { self.new.limit ≡ self.old.limit }
     {
         self.items.truncate(n);
     }
@@ -67,7 +69,8 @@ impl<T> Table<T> {
     pub fn clear(&mut self)
     where
         T: Drop,
-        ensures { self.new ≡ with_items self.old [] }
+        ensures items { items_of self.new ≡ [] }
+        ensures limit { self.new.limit ≡ self.old.limit }
     {
         self.items.clear();
     }

@@ -1,3 +1,5 @@
+ghost use Rattle.std.specs.Prelude.{◌≤◌, length, vec_items, vec_capacity};
+
 use std::marker::Model;
 
 // A table of at most `limit` elements. Its room is reserved when it is made, so no
@@ -6,18 +8,18 @@ use std::marker::Model;
 pub struct Table<T> {
     pub(crate) items: Vec<T>,
     pub(crate) limit: usize,
+    ghost room: { limit ≤ vec_capacity items },
+    ghost few: { length (vec_items items) ≤ limit },
 }
 
-// Clauses see the limit and the elements.
+// Clauses see the limit and the elements, and that these are no more.
 impl<T> Model for Table<T> {
-    ghost use Rattle.std.specs.Prelude.{◌≤◌, vec_items, vec_len, vec_capacity};
+    ghost use Rattle.std.specs.Prelude.{vec_items};
     ghost use Rattle.rank.specs.Holding.{Holding};
 
     ghost Value = { Holding T };
 
-    ghost view = { λ t. record { limit = t.limit; items = vec_items t.items } };
-
-    ghost invariant = { λ t. (t.limit ≤ vec_capacity t.items) × (vec_len t.items ≤ t.limit) };
+    ghost view = { λ t. record { limit = t.limit; items = vec_items t.items; few = t.few } };
 }
 
 // The table is full: the element that it did not take. (The library's AllocFailed

@@ -1,5 +1,5 @@
 ghost use Rattle.std.specs.Prelude.{◌≡◌, Bool, not, filter};
-ghost use Rattle.rank.specs.Tables.{items_of, with_items};
+ghost use Rattle.rank.specs.Tables.{items_of};
 
 use crate::table::Table;
 
@@ -14,7 +14,8 @@ pub trait Touching: Sized {
 
 // Drops the elements that x touches.
 pub fn drop_touched<T: Touching + Drop>(table: &mut Table<T>, x: &T)
-    ensures { table.new ≡ with_items table.old (filter (λ y. not (T.Touching.touches x.now y)) (items_of table.old)) }
+    ensures items { items_of table.new ≡ filter (λ y. not (T.Touching.touches x.now y)) (items_of table.old) }
+    ensures limit { table.new.limit ≡ table.old.limit }
 {
     table.items.retain(|row| !x.touches(row));
 }

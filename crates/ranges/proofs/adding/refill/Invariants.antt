@@ -1,6 +1,6 @@
 use Rattle.std.proofs.Common.{◌≡◌, take}
-use Rattle.rank.specs.Tables.{with_items}
+use Rattle.rank.specs.Tables.{items_of}
 use Rattle.ranges.proofs.adding.refill.Given as goal
 
 abbrev pub invariant-loop-row : goal.invariant-loop-row
-invariant-loop-row l = l.table ≡ with_items l.initial.table (take l.row-index l.rows)
+invariant-loop-row l = (items_of l.table ≡ take l.row-index l.rows) × (l.table.limit ≡ l.initial.table.limit)

@@ -14,7 +14,8 @@ returns g c =
     let is : vec_items c.dedup_by.new.self ≡ coalesced joins joined xs =
     deduped _ joins joined (λ s x k b t x' k' h. record { is = search rules; held = search rules; next = search rules }) _ _ _ c.dedup_by.ensures.filtered in
     rw (is, ← c.table.view_is) (record {
-      table = refl;
+      items = refl;
+      limit = refl;
       parted = apart;
       settled = settled joins joined _ apart;
       any_first = any-first joins joined law.inward law.onward law.one_result xs;

@@ -1,7 +1,7 @@
 use Rattle.std.proofs.Common.{◌≡◌, vec_items, sym, ap, ◌∙◌, arith}
 use Rattle.std.proofs.lemmas.Bool.{cond-true, lt-ltb}
 use Rattle.rank.specs.Ranks.{put, place_of}
-use Rattle.rank.specs.Tables.{holding, has_room}
+use Rattle.rank.specs.Tables.{has_room}
 use Rattle.rank.proofs.Putting.{place-within, inserted-is-put, put-in-order}
 use Rattle.rank.proofs.insertion.insert.Goals as goal
 
@@ -16,11 +16,11 @@ is g c =
     (c.insert.ensures.items ∙ cond-true _ _ _ (c.insert.ensures.succeeds (omega arith)))
     (c.place-at.ensures ∙ ap (place_of g.T.Ranked.after c.args.x) c.as_slice.ensures.value)
 
-pub returns-clause-table : goal.returns-clause-table
-returns-clause-table g c =
+pub returns-clause-items : goal.returns-clause-items
+returns-clause-items g c =
     let t = c.table.inside in
-    rw (← c.table.view_is) (ap (holding t.limit) (is g c ∙ sym (cond-true (has_room t.limit (vec_items t.items)) _ _
-    (lt-ltb _ _ (omega arith)))))
+    rw (← c.table.view_is) (is g c ∙ sym (cond-true (has_room t.limit (vec_items t.items)) _ _
+    (lt-ltb _ _ (omega arith))))
 
 pub returns-clause-order : goal.returns-clause-order
 returns-clause-order g c =
