@@ -1,11 +1,7 @@
 -- Searches along the rows of a table, one row on.
-use Rattle.std.proofs.Common.{◌≡◌, ℕ, ◌+◌, ◌<◌, ◌≤◌, not, cond, List, [], ◌∷◌, map, length, get_or, drop, Some, None, Option, sym, refl, ap, ◌∙◌}
+use Rattle.std.proofs.Common.{◌≡◌, ℕ, ◌+◌, ◌<◌, ◌≤◌, List, [], ◌∷◌, map, length, get_or, drop, Option, sym, ap, ◌∙◌}
 use Rattle.std.proofs.lemmas.List.{at_drop_more, at_drop_all}
-use Rattle.std.proofs.lemmas.Iterator.Adapters.{position_from-zero}
-use Rattle.std.specs.List.{position, position_from}
-use Rattle.hunk.specs.declared.source.Source.{Source}
-use Rattle.hunk.specs.Hunks.{Piece, has}
-use Rattle.pieces.specs.Process.{first_none, outside, first_outside}
+use Rattle.hunk.specs.Hunks.{Piece}
 
 -- a function of the rows that are left, one row on; r is the row, which reads as v
 pub at_row : {R Y : Type 0} (reads : R → Option Piece) (F : List (Option Piece) → Y) (rows : List R) (i : ℕ) (r : R) (v : Option Piece)

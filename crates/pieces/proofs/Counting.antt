@@ -12,7 +12,7 @@ use Rattle.hunk.specs.Hunks.{Piece, start_in, back, on_some}
 use Rattle.pieces.specs.Pieces.{cuts, moved, pieces}
 use Rattle.pieces.specs.Splits.{split, split_at, Rises}
 use Rattle.pieces.specs.declared.count.Counted.{Counted}
-use Rattle.pieces.specs.Counts.{inside_from, counted_at}
+use Rattle.pieces.specs.Counts.{inside_from}
 use Rattle.pieces.proofs.Splits.{cuts-rise, back_start, pieces-split, pieces-unnamed}
 
 pub split-length : (c : Source) (ks : List ℕ) (h : Piece) (x : ℕ) → start_in c h.suspects ≡ Some x → length (split c ks h) ≡ 1 + inside_from x (x + h.size) ks
@@ -44,12 +44,6 @@ pieces-length-unnamed c p cs h n = ap length (pieces-unnamed c p cs h n)
 -- the pieces in all, of which some are counted and the cuts ks are still to pass
 abbrev pub total : Counted → ℕ → List ℕ → ℕ
 total s e ks = s.count + inside_from s.last e ks
-
--- a cut that is passed leaves the total, and counts at most one piece
-pub passes : (s t : Counted) (e k : ℕ) (ks : List ℕ) → t ≡ counted_at s e k → (total s e (k ∷ ks) ≡ total t e ks) × (t.count ≤ s.count + 1)
-passes s t e k ks q =
-    subst (λ u. (total s e (k ∷ ks) ≡ total u e ks) × (u.count ≤ s.count + 1)) (sym q)
-    (elim (cases_Bool (ltb s.last k && ltb k e)) [ inl b ↦ rw b (omega arith, omega arith) | inr b ↦ rw b (refl, omega arith) ])
 
 -- no cut past the end counts
 none_inside : (ks : List ℕ) (from last e : ℕ) → Rises from ks → e ≤ from → inside_from last e ks ≡ 0

@@ -1,9 +1,9 @@
 -- A table as pieces are written to it.
-use Rattle.std.proofs.Common.{◌≡◌, ℕ, ◌+◌, ◌-◌, ◌<◌, ◌≤◌, List, [], ◌∷◌, ◌++◌, map, length, take, drop, set, sym, refl, ap, ◌∙◌, subst, arith}
+use Rattle.std.proofs.Common.{◌≡◌, ℕ, ◌+◌, ◌-◌, ◌≤◌, List, [], ◌++◌, map, length, take, drop, sym, refl, ap, ◌∙◌, subst, arith}
 use borrow.Rule.Slice.PartMut.{put_mid}
 use Rattle.std.specs.List.{AllByRecursion}
-use Rattle.std.proofs.lemmas.List.{length_push, length-set, length-append, length-drop, length-take-le, take_more_set, take-append-drop, take_at, take_rest, drop_at, drop_all, drop-set-lt, drop-drop, map-append, map_push, append_assoc, append-nil}
-use Rattle.std.proofs.ByRecursion.{All-push, All-append}
+use Rattle.std.proofs.lemmas.List.{length-append, length-drop, length-take-le, take-append-drop, take_at, take_rest, drop_at, drop_all, drop-drop, map-append, append_assoc, append-nil}
+use Rattle.std.proofs.ByRecursion.{All-append}
 use Rattle.hunk.specs.Hunks.{Piece}
 use Rattle.pieces.specs.Tables.{Filled}
 

@@ -9,17 +9,8 @@ use Rattle.hunk.specs.Hunks.{Piece, same_source, start_in, has, names, range_in,
 use Rattle.hunk.specs.Rows.{passed_of}
 use Rattle.pieces.specs.declared.offset.Offset.{Offset}
 use Rattle.pieces.specs.declared.offset.Offset.TheVariants.{Added, Deleted}
-use Rattle.pieces.specs.Offsets.{size_of, plus, minus, shifted, Stands}
+use Rattle.pieces.specs.Offsets.{plus, minus, shifted, Stands}
 use Rattle.pieces.specs.Steps.{moves}
-
--- an offset grows by no more than what is added or deleted
-pub plus_size : (o : Offset) (n : ℕ) → size_of (plus o n) ≤ size_of o + n
-plus_size (Added k) n = omega arith
-plus_size (Deleted k) n = elim (cases_Bool (ltb k n)) [ inl e ↦ rw e (omega arith) | inr e ↦ rw e (omega arith) ]
-
-pub minus_size : (o : Offset) (n : ℕ) → size_of (minus o n) ≤ size_of o + n
-minus_size (Added k) n = elim (cases_Bool (ltb k n)) [ inl e ↦ rw e (omega arith) | inr e ↦ rw e (omega arith) ]
-minus_size (Deleted k) n = omega arith
 
 pub stands-plus : (o : Offset) (a d n : ℕ) → Stands o a d → Stands (plus o n) (a + n) d
 stands-plus (Added k) a d n s = omega (arith, s)

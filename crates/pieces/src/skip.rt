@@ -30,14 +30,13 @@ pub(crate) fn skip<'a>(offset: &mut Offset, changes: &'a [Change], range: Span) 
                 if added.end > range.start {
                     return left;
                 }
-                *offset += added.len();
-                *offset -= deleted;
+                offset.pass_added(added, deleted);
             }
             Change::Deleted(line, deleted) => {
                 if line > range.start {
                     return left;
                 }
-                *offset -= deleted;
+                offset.sub_assign(deleted);
             }
         }
         left = rest;

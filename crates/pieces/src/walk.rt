@@ -12,7 +12,9 @@ use either::Either;
 use hunk::hunk::UnblamedHunk;
 use hunk::source::Source;
 
-// The pieces that a step is done with: two at most, without heap.
+// The pieces that a step is done with: two at most. (No `ArrayVec`: it needs no
+// heap, but its `new` asks for a `Default` of the hunk, and there is no empty hunk:
+// each has a line and a suspect.)
 #[derive(Clone, Copy)]
 pub enum Requeued {
     Nothing,
@@ -82,7 +84,6 @@ fn untouched(hunk: UnblamedHunk, change: Change) -> Step
 
 // Compares the hunk at hand with the change at hand. What is decided of the hunk
 // is requeued as pieces; what may still meet a later change stays at hand.
-#[tactic(auto, using(crate::proofs::Shifts::plus_size, crate::proofs::Shifts::minus_size))]
 pub(crate) fn process_change(
     offset: &mut Offset,
     suspect: Source,
@@ -136,8 +137,7 @@ pub(crate) fn process_change(
             ) {
                 (true, true) => match hunk.split_at(suspect, added.start) {
                     Either::Left(hunk) => {
-                        *offset += added.len();
-                        *offset -= deleted;
+                        offset.pass_added(added, deleted);
                         match hunk.split_at(suspect, added.end) {
                             Either::Left(hunk) => done(None, Requeued::One(hunk)),
                             Either::Right((blamed, after)) => keep(after, Requeued::One(blamed)),
@@ -145,8 +145,7 @@ pub(crate) fn process_change(
                     }
                     Either::Right((before, after)) => {
                         let moved = passed(before, suspect, parent, *offset);
-                        *offset += added.len();
-                        *offset -= deleted;
+                        offset.pass_added(added, deleted);
                         match after.split_at(suspect, added.end) {
                             Either::Left(hunk) => done(None, Requeued::Two(moved, hunk)),
                             Either::Right((blamed, after)) => keep(
@@ -170,8 +169,7 @@ pub(crate) fn process_change(
                     }
                 },
                 (false, true) => {
-                    *offset += added.len();
-                    *offset -= deleted;
+                    offset.pass_added(added, deleted);
                     match hunk.split_at(suspect, added.end) {
                         Either::Left(hunk) => done(None, Requeued::One(hunk)),
                         Either::Right((blamed, after)) => keep(after, Requeued::One(blamed)),
@@ -179,8 +177,7 @@ pub(crate) fn process_change(
                 }
                 (false, false) => {
                     if added.end <= range.start {
-                        *offset += added.len();
-                        *offset -= deleted;
+                        offset.pass_added(added, deleted);
                         keep(hunk, Requeued::Nothing)
                     } else if range.end <= added.start {
                         done(
@@ -201,17 +198,17 @@ pub(crate) fn process_change(
                 return untouched(hunk, Change::Deleted(line, deleted));
             };
             if line < range.start {
-                *offset -= deleted;
+                offset.sub_assign(deleted);
                 keep(hunk, Requeued::Nothing)
             } else if line < range.end {
                 match hunk.split_at(suspect, line) {
                     Either::Left(hunk) => {
-                        *offset -= deleted;
+                        offset.sub_assign(deleted);
                         keep(hunk, Requeued::Nothing)
                     }
                     Either::Right((before, after)) => {
                         let before = passed(before, suspect, parent, *offset);
-                        *offset -= deleted;
+                        offset.sub_assign(deleted);
                         keep(after, Requeued::One(before))
                     }
                 }
@@ -225,12 +222,11 @@ pub(crate) fn process_change(
         (Some(hunk), None) => done(None, Requeued::One(passed(hunk, suspect, parent, *offset))),
         (None, Some(Change::Unchanged(_))) => done(None, Requeued::Nothing),
         (None, Some(Change::AddedOrReplaced(added, deleted))) => {
-            *offset += added.len();
-            *offset -= deleted;
+            offset.pass_added(added, deleted);
             done(None, Requeued::Nothing)
         }
         (None, Some(Change::Deleted(_, deleted))) => {
-            *offset -= deleted;
+            offset.sub_assign(deleted);
             done(None, Requeued::Nothing)
         }
         (None, None) => done(None, Requeued::Nothing),

@@ -26,6 +26,9 @@ fn next_change(changes: &[Change]) -> (Option<Change>, &[Change])
     }
 }
 
+// Each writer takes the rows that are left, and says how many it filled. (A struct
+// of these rows would be no plainer: they are borrowed anew at each call, and how much
+// room a call needs depends on the hunks that it writes.)
 impl Comparison<'_> {
     // Writes the pieces of one hunk into the first rows of the table, and says how many.
     fn write_pieces<R: TableRow>(&self, hunk: UnblamedHunk, out: &mut [R]) -> usize
