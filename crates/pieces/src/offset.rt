@@ -15,6 +15,8 @@ pub enum Offset {
     Deleted(u32),
 }
 
+// Each move says by how much the offset may grow, for whoever adds up many. (Tried: a lemma in
+// place of these clauses; then each caller has to name it.)
 impl Offset {
     // With so many lines added. (`AddAssign` would be public, as the type is, and would
     // have to ask its caller that the sum fits; so would `SubAssign`.)
