@@ -19,7 +19,7 @@ impl BlameRanges {
         Ok(BlameRanges { ranges, spare })
     }
 
-    // The lines alone.
+    // The lines alone. (It differs from the next in what is added; both are gix-blame's.)
     pub fn from_one_based_inclusive_range(
         heap: Global,
         lines: OneBased,
