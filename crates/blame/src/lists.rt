@@ -96,7 +96,7 @@ impl Printer<'_> {
 
     // The lines asked for, row by row, and the totals. Where some are asked, they are
     // counted here; those of a whole list are counted apart. (`rows` checks the list once
-    // more: it takes any, and asks nothing of it.)
+    // more. One for a `ValidList` would save nothing here: memory can be wanting all the same.)
     fn rows(&mut self, list: ValidList) -> anyhow::Result<()> {
         let Ok(rows) = rows(self.rt.alloc(), list.changes) else {
             bail!("no memory for the rows of a list");

@@ -13,19 +13,17 @@ pub struct Options {
     pub path: Option<String>,
 }
 
-// Reads `-L FIRST,LAST`, any number of times, and the name of a file. (The flag says that `-L`
-// stood alone. A loop that takes the lines by `args.next()` is plainer, but has no measure by
-// which it is seen to end: only `for` has.)
+// Reads `-L FIRST,LAST`, any number of times, and the name of a file.
 pub fn read(rt: &HostRuntime, args: Args) -> anyhow::Result<Options> {
     let mut ranges = BlameRanges::whole_file(rt.alloc())?;
+    let mut args = args;
     let mut path = None;
-    let mut lines_next = false;
-    for arg in args {
-        if lines_next {
-            ask(&mut ranges, arg.as_str())?;
-            lines_next = false;
-        } else if arg.as_str() == "-L" {
-            lines_next = true;
+    while let Some(arg) = args.next() {
+        if arg.as_str() == "-L" {
+            let Some(lines) = args.next() else {
+                bail!("-L takes lines, as FIRST,LAST");
+            };
+            ask(&mut ranges, lines.as_str())?;
         } else if let Some(lines) = arg.as_str().strip_prefix("-L") {
             ask(&mut ranges, lines)?;
         } else if path.is_some() {
@@ -33,9 +31,6 @@ pub fn read(rt: &HostRuntime, args: Args) -> anyhow::Result<Options> {
         } else {
             path = Some(arg);
         }
-    }
-    if lines_next {
-        bail!("-L takes lines, as FIRST,LAST");
     }
     Ok(Options { ranges, path })
 }

@@ -12,7 +12,7 @@ use std::test::Fail;
 const LINE: &str =
     "1 2 ; H 1 3 7 1 1 0 4 ; C 3 U 0 1 A 1 3 1 D 3 2 ; R 2 3 4 1 2 0 1 4 7 2 1 1 4 9 5 8";
 
-// (Each crate's tests make their own: a crate's tests are none of what others can use.)
+// (The tests of a crate cannot call those of another, so each that needs it has its own.)
 fn suspect(commit: u32, start: u32, end: u32) -> Suspect {
     Suspect {
         source: Source { commit },

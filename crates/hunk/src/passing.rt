@@ -25,8 +25,8 @@ fn renamed(hunk: UnblamedHunk, from: Source, to: Source, start: u32) -> Unblamed
     }
 }
 
-// The hunk without `from`. (Those that stay are put into an array by their place, since
-// what `filter` leaves can be collected only on the heap.)
+// The hunk without `from`. (Those that stay are put into the array by their place: what
+// `filter` leaves can be collected into an `ArrayVec`, and would be copied from there.)
 fn dropped(hunk: UnblamedHunk, from: Source) -> UnblamedHunk
     requires { 0 < length (without from (piece_of hunk)).suspects }
     ensures { piece_of result ≡ without from (piece_of hunk) }

@@ -9,7 +9,7 @@ use pieces::process::process_changes;
 use std::alloc::{AllocError, Global};
 use std::test::Fail;
 
-// (Each crate's tests make their own: a crate's tests are none of what others can use.)
+// (The tests of a crate cannot call those of another, so each that needs it has its own.)
 fn range(start: u32, end: u32) -> Span {
     Span { start, end }
 }

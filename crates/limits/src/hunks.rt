@@ -12,7 +12,7 @@ pub(crate) fn source(commit: u32) -> Source {
     Source { commit }
 }
 
-// (Each crate's tests make their own: a crate's tests are none of what others can use.)
+// (The tests of a crate cannot call those of another, so each that needs it has its own.)
 fn suspect(commit: u32, start: u32, end: u32) -> Suspect {
     Suspect {
         source: source(commit),

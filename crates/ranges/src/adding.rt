@@ -71,9 +71,8 @@ impl Rows {
         ensures rows { OnOk result (add_all_of (rows_of self.old) list.now ≡ Ok (rows_of self.new)) }
     {
         for (position, lines) in list.iter().enumerate() {
-            if let Err(fault) = self.add(*lines) {
-                return Err(BadEntry { position, fault });
-            }
+            self.add(*lines)
+                .map_err(|fault| BadEntry { position, fault })?;
         }
         Ok(())
     }

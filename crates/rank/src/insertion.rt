@@ -27,7 +27,7 @@ pub fn insert<T: Ranked>(table: &mut Table<T>, x: T) -> Result<(), Full<T>>
         return Err(Full { value: x });
     }
     let at = place(table.items.as_slice(), &x);
-    // (No From for `?`: out of memory means a full table here alone.)
+    // (Never refused here, where there is room: the error only takes this one's type.)
     table.items.insert(at, x).map_err(|refused| Full {
         value: refused.value,
     })

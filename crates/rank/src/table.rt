@@ -12,7 +12,7 @@ pub struct Table<T> {
     ghost few: { length (vec_items items) ≤ limit },
 }
 
-// Clauses see the limit and the elements, and that these are no more. (That the limit stays is a
+// Clauses see the limit and the elements, and that there are no more of these. (That the limit stays is a
 // clause of its own of each function: a whole table in a clause needs a proof of its bound there.)
 impl<T> Model for Table<T> {
     ghost use Rattle.std.specs.Prelude.{vec_items};

@@ -12,7 +12,7 @@ pub struct LineCount {
     pub kept: u32,
 }
 
-// The lines of a right list counted.
+// The lines of a valid list counted.
 pub fn count_valid(list: ValidList) -> LineCount
     ensures { result ≡ count_of list.entry.changes.now }
 {

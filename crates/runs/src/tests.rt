@@ -7,7 +7,7 @@ use change::unmade::Unmade;
 use std::alloc::Global;
 use std::test::Fail;
 
-// (Each crate's tests make their own: a crate's tests are none of what others can use.)
+// (The tests of a crate cannot call those of another, so each that needs it has its own.)
 fn span(start: u32, end: u32) -> Span {
     Span { start, end }
 }

@@ -52,7 +52,8 @@ impl TryFrom<u32> for Layout {
     }
 }
 
-// (Two numbers here and below: a `Span` would have to be written out at each call.)
+// (Two numbers here and below: a `Span` would have to be written out at each call. A test
+// of `change` makes such a change too, and cannot call this.)
 fn unchanged(start: u32, end: u32) -> Change {
     Change::Unchanged(Span { start, end })
 }
