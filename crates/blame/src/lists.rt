@@ -103,7 +103,7 @@ impl Printer<'_> {
         };
         let clipped = self.asked.to_zero_based_exclusive_ranges(list.totals.new);
         for row in rows.iter() {
-            for range in clipped.iter() {
+            for range in clipped.as_slice() {
                 if let Some(part) = part(*row, *range) {
                     println!(self.rt; "  {part}")?;
                     if !self.asked.is_whole_file() {

@@ -33,6 +33,12 @@ follows-join (Deleted l k ∷ p) q at f g =
     let e : at + new_total (Deleted l k ∷ p) ≡ at + new_total p = omega arith in
     (f.0, f.1, follows-join p q at f.2 (subst (λ n. Follows n q) e g))
 
+pub follows-front : (p q : List Change) (at : ℕ) → Follows at (p ++ q) → Follows at p
+follows-front [] q at f = tt
+follows-front (Unchanged r ∷ p) q at f = (f.0, f.1, follows-front p q r.end f.2)
+follows-front (AddedOrReplaced r k ∷ p) q at f = (f.0, f.1, follows-front p q r.end f.2)
+follows-front (Deleted l k ∷ p) q at f = (f.0, f.1, follows-front p q at f.2)
+
 pub follows-back : (p q : List Change) (at : ℕ) → Follows at (p ++ q) → Follows (at + new_total p) q
 follows-back [] q at f = let e : at ≡ at + 0 = omega arith in subst (λ n. Follows n q) e f
 follows-back (Unchanged r ∷ p) q at f =

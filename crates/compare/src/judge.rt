@@ -1,3 +1,4 @@
+ghost use Rattle.std.specs.Prelude.{◌≡◌, Decides};
 ghost use Rattle.compare.specs.Verdicts.{Says};
 
 use crate::case::Case;
@@ -18,11 +19,27 @@ pub enum Verdict {
     Refused(ProcessFault),
 }
 
+// Whether both have the same rows. (Row by row, and not by `==` of the slices: so it is said
+// in one place what two rows are compared by.)
+fn same_rows(these: &[HunkRow], those: &[HunkRow]) -> bool
+    ensures { Decides result (these.now ≡ those.now) }
+{
+    if these.len() != those.len() {
+        return false;
+    }
+    for (row, other) in these.iter().zip(those) {
+        if row != other {
+            return false;
+        }
+    }
+    true
+}
+
 // What is to be said of the rows that were written.
 pub fn verdict_on(written: Vec<HunkRow>, expected: &[HunkRow]) -> Verdict
     ensures { Says written.items expected.now result }
 {
-    if written.as_slice() == expected {
+    if same_rows(written.as_slice(), expected) {
         Verdict::Agrees
     } else {
         Verdict::Differs(written)

@@ -1,5 +1,5 @@
 -- A row that is a hunk, read and changed where it lies.
-use Rattle.std.proofs.Common.{◌≡◌, ◌+◌, ◌-◌, ◌<◌, ◌≤◌, min, true, List, [], ◌∷◌, ◌++◌, map, length, take, replicate, Some, Option, IfSome, sym, refl, ap, ◌∙◌, inl, inr, arith}
+use Rattle.std.proofs.Common.{◌≡◌, ◌+◌, ◌-◌, ◌<◌, ◌≤◌, min, true, List, [], ◌∷◌, ◌++◌, map, length, take, replicate, Some, Option, IfSome, sym, refl, ap, ◌∙◌, subst, inl, inr, arith}
 use Rattle.std.specs.List.{AllByRecursion}
 use Rattle.std.proofs.lemmas.List.{length-map, length-take-le}
 use Rattle.std.proofs.lemmas.Bool.{cases_Bool}
@@ -7,11 +7,12 @@ use Rattle.std.specs.Option.{option_map}
 use Rattle.change.specs.declared.span.Span.{Span}
 use Rattle.hunk.specs.declared.source.Source.{Source}
 use Rattle.hunk.specs.declared.suspect.Suspect.{Suspect}
+use Rattle.hunk.specs.declared.hunk.UnblamedHunk.{UnblamedHunk}
 use Rattle.hunk.specs.declared.row.HunkRow.{HunkRow}
 use Rattle.hunk.specs.Hunks.{same_source, start_in, range_in, span_of, named, rename, with_suspects}
-use Rattle.hunk.specs.Rows.{is_hunk, in_use, range_at, rename_at, renamed_row, row_piece, row_of, suspect_of}
+use Rattle.hunk.specs.Rows.{piece_of, is_hunk, in_use, range_at, rename_at, renamed_row, row_piece, row_of, suspect_of}
 use Rattle.hunk.specs.Sound.{blank}
-use Rattle.hunk.proofs.Owing.{Even, Inside}
+use Rattle.hunk.proofs.Owing.{Even, Inside, Owed, owed}
 use Rattle.hunk.proofs.Searches.{told-by-start}
 use Rattle.hunk.proofs.Checks.{right, same_row}
 
@@ -47,6 +48,18 @@ module _ (r : Span) (l : r.start < r.end) where
         | inl b ↦ rw b (ap (λ v. record { source = p; range = v }) e)
         | inr b ↦ rw b (ap (λ v. record { source = s.source; range = v }) (told-by-start s.range r l a.0))
       ])
+
+-- .. of a hunk
+module _ (h : UnblamedHunk) (c : Source) (n : h.count ≤ length h.suspects) where
+  owes : Owed h.range_in_blamed_file (take h.count h.suspects)
+  owes = owed h.range_in_blamed_file h.suspects h.count n h.level h.within h.apart
+
+  pub told_range : range_at c (take h.count h.suspects) ≡ range_in c (piece_of h)
+  told_range = range-told h.range_in_blamed_file h.lines c (take h.count h.suspects) owes.level
+
+  pub told_within : (x : Option Span) → x ≡ range_in c (piece_of h) → InRange h.range_in_blamed_file x
+  told_within x e =
+      subst (InRange h.range_in_blamed_file) (sym (e ∙ sym told_range)) (range-within h.range_in_blamed_file h.lines c (take h.count h.suspects) owes.level owes.within)
 
 in_use_lem : (r : HunkRow) → r.count ≤ 8 → in_use r ≡ take r.count r.suspects
 in_use_lem r f = let e : min r.count 8 ≡ r.count = omega arith in ap (λ n. take n r.suspects) e

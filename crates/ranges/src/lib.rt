@@ -5,8 +5,10 @@
 
 mod adding;
 pub mod blame_ranges;
+pub mod clipped;
 mod clipping;
 pub mod fault;
+mod held;
 mod making;
 mod merging;
 pub mod one_based;

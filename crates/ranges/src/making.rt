@@ -15,8 +15,7 @@ impl BlameRanges {
         ensures { IfOk result (λ b. ranges_of b ≡ []) }
     {
         let ranges = Rows::new(heap)?;
-        let spare = Rows::new(heap)?;
-        Ok(BlameRanges { ranges, spare })
+        Ok(BlameRanges { ranges })
     }
 
     // The lines alone. (It differs from the next in what is added; both are gix-blame's.)

@@ -1,13 +1,13 @@
 ghost use Rattle.std.specs.Prelude.{◌≡◌, ℕ, ◌≤◌, ◌&&◌, length, nat_lt};
 ghost use Rattle.ranges.specs.Spans.{spans, whole, any_has, asked, Apart};
 ghost use Rattle.ranges.specs.Clips.{clip_of, Within};
+ghost use Rattle.ranges.specs.Rows.{laid, in_use};
 ghost use Rattle.ranges.specs.Ranges.{ranges_of};
 
 use crate::blame_ranges::BlameRanges;
+use crate::clipped::Clipped;
 use crate::clipping::{all_lines, cut};
-use arrayvec::ArrayVec;
 use change::line_range::LineRange;
-use change::span::Span;
 
 impl BlameRanges {
     // The ranges, in order and apart: none of the whole file.
@@ -33,10 +33,10 @@ impl BlameRanges {
     }
 
     // What is asked of a file of `max_lines` lines.
-    pub fn to_zero_based_exclusive_ranges(&self, max_lines: u32) -> ArrayVec<Span, 64>
-        ensures is { result.items ≡ clip_of max_lines (ranges_of self.now) }
-        ensures lines { (n : ℕ) → any_has result.items n ≡ (asked (ranges_of self.now) n && nat_lt n max_lines) }
-        ensures within { Within max_lines result.items }
+    pub fn to_zero_based_exclusive_ranges(&self, max_lines: u32) -> Clipped
+        ensures is { result ≡ laid (clip_of max_lines (ranges_of self.now)) }
+        ensures lines { (n : ℕ) → any_has (in_use result) n ≡ (asked (ranges_of self.now) n && nat_lt n max_lines) }
+        ensures within { Within max_lines (in_use result) }
     {
         if self.is_whole_file() {
             all_lines(max_lines)

@@ -24,10 +24,10 @@ fn ranges_merge_and_are_cut(rt: HostRuntime) -> Result<(), Fail> {
     let apart = BlameRanges::from_one_based_inclusive_ranges(heap, &[lines(5, 6), lines(1, 3)])?;
     let two = apart.to_zero_based_exclusive_ranges(5);
     assert_eq!(rt; two.as_slice(), &[span(0, 3), span(4, 5)][..]);
-    assert_eq!(rt; apart.to_zero_based_exclusive_ranges(4).len(), 1);
+    assert_eq!(rt; apart.to_zero_based_exclusive_ranges(4).as_slice().len(), 1);
 
     let whole = BlameRanges::whole_file(heap)?;
-    assert_eq!(rt; whole.to_zero_based_exclusive_ranges(0).len(), 0);
+    assert_eq!(rt; whole.to_zero_based_exclusive_ranges(0).as_slice().len(), 0);
     let all = whole.to_zero_based_exclusive_ranges(7);
     assert_eq!(rt; all.as_slice(), &[span(0, 7)][..]);
     Ok(())

@@ -1,5 +1,5 @@
 -- What it takes to join, in numbers, and what the laws of joining say of entries and ranges.
-use Rattle.std.specs.Prelude.{◌≡◌, ℕ, ◌+◌, ◌≤◌, ◌&&◌, ◌==◌, max, nat_le, true}
+use Rattle.std.specs.Prelude.{◌≡◌, ℕ, Bool, ◌+◌, ◌≤◌, ◌&&◌, ◌==◌, max, nat_le, true}
 use Rattle.std.proofs.Common.{refl, arith}
 use Rattle.std.proofs.lemmas.Bool.{and_parts, eqb-true, leb-true}
 use Rattle.std.proofs.lemmas.Bool.Decides.{nat_tests}
@@ -31,6 +31,10 @@ continued a b j =
     let p = and_parts (goes_on a.start_in_blamed_file a.len b.start_in_blamed_file b.len && goes_on a.start_in_source_file a.len b.start_in_source_file b.len) (same_source a.source b.source) j in
     let q = and_parts (goes_on a.start_in_blamed_file a.len b.start_in_blamed_file b.len) (goes_on a.start_in_source_file a.len b.start_in_source_file b.len) p.0 in
     record { asked = q.0; kept = q.1; same = eqb-true _ _ p.1 }
+
+-- three tests joined are equal to three equal ones
+pub all_three : (p q r p' q' r' : Bool) → p ≡ p' → q ≡ q' → r ≡ r' → (p && q && r) ≡ (p' && q' && r')
+all_three p q r p' q' r' e f g = cc
 
 pub onward : (a b c : BlameEntry) → continues a b ≡ true → continues (lengthened a b) c ≡ continues b c
 onward a b c j = grind (arith, nat_tests)

@@ -4,7 +4,7 @@ use Rattle.std.specs.List.{insert, AllByRecursion, position, position_or_len}
 use Rattle.std.proofs.lemmas.List.Recursion.{is_position_or_len}
 use Rattle.std.proofs.lemmas.Bool.{cond_both, cases_Bool, ltb-false}
 use Rattle.std.proofs.ByRecursion.{All-weaker}
-use Rattle.rank.specs.Ranks.{InOrder, put, place_of}
+use Rattle.rank.specs.Ranks.{InOrder, put, place_of, Among}
 
 module _ {X : Type 0} (after : X → X → Bool) (x : X) where
   pub place-within : (xs : List X) → place_of after x xs ≤ length xs
@@ -31,6 +31,9 @@ module _ {X : Type 0} (after : X → X → Bool) (x : X) where
   -- x inserted at its place
   pub inserted-is-put : (xs out : List X) (n : ℕ) → out ≡ insert xs n x → n ≡ place_of after x xs → out ≡ put after x xs
   inserted-is-put xs out n e p = e ∙ ap (λ i. insert xs i x) p ∙ sym (put_is xs)
+
+  pub put-among : (xs out : List X) → out ≡ put after x xs → Among x xs out
+  put-among xs out e = record { place = place_of after x xs; within = place-within xs; is = e ∙ put_is xs }
 
   -- what holds of x and of each element holds of each when x is put among them
   pub put_all : (P : X → Type 0) (xs : List X) → P x → AllByRecursion P xs → AllByRecursion P (put after x xs)

@@ -12,15 +12,16 @@ pub struct Table<T> {
     ghost few: { length (vec_items items) ≤ limit },
 }
 
-// Clauses see the limit and the elements, and that there are no more of these. (That the limit stays is a
-// clause of its own of each function: a whole table in a clause needs a proof of its bound there.)
+// Clauses see the limit and the elements, that there are no more of these, and that there is room for as
+// many. (That the limit stays is a clause of its own of each function: a whole table in a clause needs a
+// proof of its bound there.)
 impl<T> Model for Table<T> {
-    ghost use Rattle.std.specs.Prelude.{vec_items};
+    ghost use Rattle.std.specs.Prelude.{vec_items, vec_capacity};
     ghost use Rattle.rank.specs.Holding.{Holding};
 
     ghost Value = { Holding T };
 
-    ghost view = { λ t. record { limit = t.limit; items = vec_items t.items; few = t.few } };
+    ghost view = { λ t. record { limit = t.limit; items = vec_items t.items; few = t.few; capacity = vec_capacity t.items; room = t.room } };
 }
 
 // The table is full: the element that it did not take. (The library's AllocFailed

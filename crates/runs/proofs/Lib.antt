@@ -2,3 +2,4 @@ pub mod Along
 pub mod Covers
 pub mod Puts
 pub mod Counting
+pub mod Parting
