@@ -1,14 +1,9 @@
 -- A suspect added behind the others.
-use Rattle.std.proofs.Common.{◌≡◌, ℕ, ◌+◌, ◌<◌, ◌≤◌, true, false, ltb, leb, List, [], ◌∷◌, ◌++◌, length, Ok, sym}
+use Rattle.std.proofs.Common.{List, [], ◌∷◌, ◌++◌, sym}
 use Rattle.std.specs.List.{AllByRecursion}
 use Rattle.std.proofs.ByRecursion.{All-push}
-use Rattle.std.proofs.lemmas.Bool.{le-leb, lt-ltb}
-use Rattle.change.specs.Lists.{limit}
 use Rattle.change.specs.declared.span.Span.{Span}
-use Rattle.hunk.specs.declared.source.Source.{Source}
 use Rattle.hunk.specs.declared.suspect.Suspect.{Suspect}
-use Rattle.hunk.specs.Hunks.{Piece, names, with_suspects}
-use Rattle.hunk.specs.Rows.{added_of}
 use Rattle.hunk.proofs.Owing.{Even, Inside, Other, Distinct, Owed}
 
 push-distinct : (ss : List Suspect) (n : Suspect) → AllByRecursion (Other n.source) ss → Distinct ss → Distinct (ss ++ n ∷ [])

@@ -20,7 +20,10 @@ fn a_file_is_read(rt: HostRuntime) -> Result<(), Fail> {
 
 #[test]
 fn all_of_a_file_is_read(rt: HostRuntime) -> Result<(), Fail> {
-    let bytes = read(&rt, Some(format!(in rt.alloc(); "/proc/sys/kernel/ostype")?))?;
+    let bytes = read(
+        &rt,
+        Some(format!(in rt.alloc(); "/proc/sys/kernel/ostype")?),
+    )?;
     assert_eq!(rt; bytes.as_slice(), b"Linux\n".as_slice());
     Ok(())
 }
