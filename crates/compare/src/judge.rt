@@ -3,6 +3,7 @@ ghost use Rattle.compare.specs.Verdicts.{Says};
 
 use crate::case::Case;
 use hunk::row::HunkRow;
+use hunk::suspect::Suspect;
 use pieces::fault::ProcessFault;
 use pieces::process::process_changes;
 use std::alloc::{AllocError, Global};
@@ -19,8 +20,24 @@ pub enum Verdict {
     Refused(ProcessFault),
 }
 
-// Whether both have the same rows. (Row by row, and not by `==` of the slices: so it is said
-// in one place what two rows are compared by.)
+// Whether both have the same suspects.
+fn same_suspects(these: &[Suspect; 8], those: &[Suspect; 8]) -> bool
+    ensures { Decides result (these.now ≡ those.now) }
+{
+    these == those
+}
+
+// Whether the rows are equal, what stands behind their suspects too. (By its parts, and not by
+// `==`: so a wrong edit of one part is refused for that part.)
+fn same_row(row: &HunkRow, other: &HunkRow) -> bool
+    ensures { Decides result (row.now ≡ other.now) }
+{
+    row.range_in_blamed_file == other.range_in_blamed_file
+        && same_suspects(&row.suspects, &other.suspects)
+        && row.count == other.count
+}
+
+// Whether both have the same rows, one by one.
 fn same_rows(these: &[HunkRow], those: &[HunkRow]) -> bool
     ensures { Decides result (these.now ≡ those.now) }
 {
@@ -28,7 +45,7 @@ fn same_rows(these: &[HunkRow], those: &[HunkRow]) -> bool
         return false;
     }
     for (row, other) in these.iter().zip(those) {
-        if row != other {
+        if !same_row(row, other) {
             return false;
         }
     }

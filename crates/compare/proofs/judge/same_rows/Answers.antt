@@ -1,19 +1,19 @@
 use Rattle.std.proofs.Common.{◌≡◌, false, length, inl, inr, sym, refl, ap, ◌∙◌, arith}
 use Rattle.std.proofs.lemmas.Bool.{both_ways}
-use Rattle.compare.proofs.Same.{heads, tails, joined, both_empty, differ}
+use Rattle.compare.proofs.Same.{heads, tails, joined, both_empty}
 use Rattle.compare.proofs.judge.same_rows.Goals as goal
 
-pub returns-then-ne : goal.returns-then-ne
-returns-then-ne c =
+pub returns-then-not-same_row : goal.returns-then-not-same_row
+returns-then-not-same_row c =
     let s = c.in-Some.ensures in
     let i = c.loop-row.invariant in
-    (λ e. absurd (both_ways false refl e), λ e. differ c.in-Some.row.now c.in-Some.other.now (sym c.ne.ensures ∙ c.if-ne.true) (heads (sym s.steps.0 ∙ i.1 e ∙ s.steps.1)))
+    (λ e. absurd (both_ways false refl e), λ e. absurd (both_ways _ c.if-not-same_row.true (c.same_row.ensures.1 (heads (sym s.steps.0 ∙ i.1 e ∙ s.steps.1)))))
 
 pub loop-row-preserved : goal.loop-row-preserved
 loop-row-preserved c =
     let s = c.in-Some.ensures in
     let i = c.loop-row.invariant in (
-      λ e. i.0 (s.steps.0 ∙ joined c.in-Some.row.now c.in-Some.other.now (sym c.ne.ensures ∙ c.if-ne.false) e ∙ sym s.steps.1),
+      λ e. i.0 (s.steps.0 ∙ joined (c.same_row.ensures.0 c.if-not-same_row.false) e ∙ sym s.steps.1),
       λ e. tails (sym s.steps.0 ∙ i.1 e ∙ s.steps.1),
       omega (arith, i.2, ap length s.steps.0, ap length s.steps.1),
     )
