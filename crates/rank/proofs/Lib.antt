@@ -3,3 +3,4 @@ pub mod Neighbours
 pub mod Deduped
 pub mod Made
 pub mod Laws
+pub mod Holdings

@@ -1,4 +1,4 @@
-ghost use Rattle.std.specs.Prelude.{◌≤◌, length, vec_items, vec_capacity};
+ghost use Rattle.std.specs.Prelude.{◌≡◌, ◌≤◌, length, vec_items, vec_capacity};
 
 use std::marker::Model;
 
@@ -10,18 +10,19 @@ pub struct Table<T> {
     pub(crate) limit: usize,
     ghost room: { limit ≤ vec_capacity items },
     ghost few: { length (vec_items items) ≤ limit },
+    ghost exact: { vec_capacity items ≡ limit },
 }
 
-// Clauses see the limit and the elements, that there are no more of these, and that there is room for as
-// many. (That the limit stays is a clause of its own of each function: a whole table in a clause needs a
-// proof of its bound there.)
+// Clauses see the limit and the elements, that there are no more of these, and that there is room for just as
+// many: so tables of one limit and of equal elements are equal. (That the limit stays is a clause of its own of
+// each function: a whole table in a clause needs a proof of its bound there.)
 impl<T> Model for Table<T> {
     ghost use Rattle.std.specs.Prelude.{vec_items, vec_capacity};
     ghost use Rattle.rank.specs.Holding.{Holding};
 
     ghost Value = { Holding T };
 
-    ghost view = { λ t. record { limit = t.limit; items = vec_items t.items; few = t.few; capacity = vec_capacity t.items; room = t.room } };
+    ghost view = { λ t. record { limit = t.limit; items = vec_items t.items; few = t.few; capacity = vec_capacity t.items; room = t.room; exact = t.exact } };
 }
 
 // The table is full: the element that it did not take. (The library's AllocFailed
