@@ -2,8 +2,8 @@ ghost use Rattle.std.specs.Prelude.{◌≡◌};
 ghost use Rattle.text.specs.Decimal.{told, number_of};
 
 // The number that the digits in front of the text write, if there are any and it is at
-// most `most`, and what stands behind them. (It stops at the digit that passes the most, so
-// that a long row of digits costs no more than a short one.)
+// most `most`, and what stands behind them. (It stops at the digit that passes the most, and
+// reads none behind it; zeros in front are read, however many.)
 pub fn number(text: &[u8], most: u32) -> Option<(u32, &[u8])>
     ensures { told result ≡ number_of most text.now }
 {
